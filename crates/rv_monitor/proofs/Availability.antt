@@ -63,12 +63,12 @@ timer_exits hart machine invariant slot host runs host_is_saved timer_set =
     let world = world_is_host _ ((exits_law hart machine invariant slot runs).exits timer_trap trap_is) in
     -- the interrupt exits to the host, and `leave_law` gives the machine after the exit
     let exit = leave_law hart machine invariant slot host timer_trap runs host_is_saved trap_is world in
-    let left_machine_is = exit.0 in
+    let (left_machine_is, _) = exit in
     let live : is_live machine.shared.table slot ≡ true =
     running_is_live slot hart machine invariant (ap (is_world_of slot) runs ∙ eq-eqb slot slot refl) in
     record {
       trapped = trap_is;
-      left = (left_machine_is, exit.1);
+      left = exit;
       result =
           ap (λ (machine : MonitoredMachine). (hart_state_of hart machine).hart.regs) left_machine_is
           ∙ ap (λ (hart_state : HartState). hart_state.hart.regs) (left_hart_state hart machine slot timer_trap host in_range);

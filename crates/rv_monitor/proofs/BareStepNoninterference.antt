@@ -25,7 +25,8 @@ module _ (hidden : ℕ → Bool) (view : HartView) (view_invariant : HartViewInv
       → EqualOutside hidden before.memory other_memory → SameIn before.memory other_memory touched
   accessed_bytes_equal mode access None other_memory mode_below_m may_touch equal_outside = tt
   accessed_bytes_equal mode access (Some span) other_memory mode_below_m may_touch equal_outside =
-      same_read hidden before.memory other_memory span.addr (bytes_in span.len) equal_outside may_touch.0
+      let (inside_memory, _) = may_touch in
+      same_read hidden before.memory other_memory span.addr (bytes_in span.len) equal_outside inside_memory
       (not_hidden mode access span mode_below_m may_touch)
 
   -- both memories have equal bytes in all accesses of the step
@@ -50,8 +51,8 @@ module _ (hidden : ℕ → Bool) (view : HartView) (view_invariant : HartViewInv
       → EqualOutside hidden after other_after
   same_stores None other_memory bytes after other_after equal_outside first_stores second_stores =
       rw (first_stores, second_stores) equal_outside
-  same_stores (Some span) other_memory bytes after other_after equal_outside first_stores second_stores =
-      same_write hidden before.memory other_memory span.addr bytes after other_after equal_outside first_stores.1 second_stores.1
+  same_stores (Some span) other_memory bytes after other_after equal_outside (_, first_write_is) (_, second_write_is) =
+      same_write hidden before.memory other_memory span.addr bytes after other_after equal_outside first_write_is second_write_is
 
   -- the bare step has the same effect on both memories, and leaves them equal outside the hidden bytes
   pub bare_step_alike : (other_memory : List ℕ) → EqualOutside hidden before.memory other_memory
@@ -78,13 +79,13 @@ module _ (enclave : ℕ) (view : HartView) (view_invariant : HartViewInvariant v
   accesses_no_private_byte : (mode : Mode) (access : Access) (span : Span) → is_machine mode ≡ false
       → MayTouch (bare_machine view) mode access (Some span)
       → IsSeen (is_private view.shared.table enclave) span.addr (bytes_in span.len)
-  accesses_no_private_byte mode access span mode_below_m may_touch byte from_start before_end =
+  accesses_no_private_byte mode access span mode_below_m (inside_memory, permitted) byte from_start before_end =
       let entries = view_invariant.hart.layout.entries in
       let outside_other_regions =
       permitted_apart view.shared.memory view.shared.table view.hart_state.world mode access span.addr (bytes_in span.len)
       (small_ram view.shared.memory view_invariant.valid.ram) view_invariant.valid (below_M mode mode_below_m) (some_bytes span.len)
-      (inside-bounds view.shared.memory span.addr (bytes_in span.len) may_touch.0) in
-      outside_other_regions enclave runs_other_world (rw (← entries) may_touch.1) byte from_start before_end
+      (inside-bounds view.shared.memory span.addr (bytes_in span.len) inside_memory) in
+      outside_other_regions enclave runs_other_world (rw (← entries) permitted) byte from_start before_end
 
 -- proves the bare law: a bare step depends on no byte in the region of another enclave
 pub bare_law : BareLaw

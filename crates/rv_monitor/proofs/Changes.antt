@@ -104,7 +104,7 @@ module _ (hart_state : HartState) (shared : Shared) (valid : IsValid shared.memo
         let may_store_byte =
         each_from_all (may_store shared.memory entries) (a1 hart_state) 32 may_store_bytes byte from_start before_end in
         -- the condition of the measure gives that the byte is in memory, and that the PMP permits the store
-        let inside_and_permitted =
+        let (inside_memory, permitted) =
         and_parts (is_inside shared.memory byte 1) (permits (verdict entries S Write (bytes_from byte 1))) may_store_byte in
         record {
           asked = asked;
@@ -112,8 +112,8 @@ module _ (hart_state : HartState) (shared : Shared) (valid : IsValid shared.memo
           low = from_start;
           high = before_end;
           accessible =
-              sym (reach_law shared.memory shared.table hart_state.world S Write byte Byte valid (below_M S refl) inside_and_permitted.0)
-              ∙ inside_and_permitted.1;
+              sym (reach_law shared.memory shared.table hart_state.world S Write byte Byte valid (below_M S refl) inside_memory)
+              ∙ permitted;
         }
 
     -- a measure changes only the 32 bytes from a1 on
@@ -197,12 +197,11 @@ module _ (view : HartView) (view_invariant : HartViewInvariant view) (byte : ℕ
       → MayTouch (bare_machine view) (data_mode view.hart_state.hart) Write stored
       → Stores bytes view.shared.memory after stored → UnchangedOrStored stored after
   store_is_permitted None bytes after may_touch after_is = inl (ap (λ (memory : List ℕ). byte_at memory byte) after_is)
-  store_is_permitted (Some span) bytes after may_touch stores =
-      let stored_size = stores.0 in
+  store_is_permitted (Some span) bytes after (inside_memory, permitted) (stored_size, write_is) =
       let mode_below_m = below_M (data_mode view.hart_state.hart) (data_below view view_invariant) in
       elim (cases_lt byte span.addr) [
         -- the byte is before the stored bytes, so the store leaves the byte unchanged
-        | inl before_start ↦ inl (byte_at-write view.shared.memory span.addr bytes after byte stores.1 (inl before_start))
+        | inl before_start ↦ inl (byte_at-write view.shared.memory span.addr bytes after byte write_is (inl before_start))
         | inr from_start ↦ elim (cases_lt byte (span.addr + bytes_in span.len)) [
           -- the byte is a stored byte, and the PMP permitted the store
           | inl before_end ↦
@@ -212,12 +211,12 @@ module _ (view : HartView) (view_invariant : HartViewInvariant view) (byte : ℕ
                 low = from_start;
                 high = before_end;
                 accessible =
-                    sym (access_control_law view (data_mode view.hart_state.hart) Write span.addr span.len view_invariant mode_below_m may_touch.0)
-                    ∙ may_touch.1;
+                    sym (access_control_law view (data_mode view.hart_state.hart) Write span.addr span.len view_invariant mode_below_m inside_memory)
+                    ∙ permitted;
               })
           -- the byte is after the stored bytes, so the store leaves the byte unchanged
           | inr after_end ↦
-              inl (byte_at-write view.shared.memory span.addr bytes after byte stores.1 (inr (rw stored_size after_end)))
+              inl (byte_at-write view.shared.memory span.addr bytes after byte write_is (inr (rw stored_size after_end)))
         ]
       ]
 
@@ -243,5 +242,5 @@ changes view view_invariant byte =
     (hart_state_after view.hart_state trap) view.shared view_invariant.valid view_invariant.hart.layout.entries byte trap) [
       | inl unchanged ↦ inl unchanged
       -- with a trap, only the trap handler changes bytes
-      | inr changed ↦ inr (inr (record { trap = trap; trapped = trapped; is = changed.0; change = changed.1 }))
+      | inr (is_ecall, change) ↦ inr (inr (record { trap = trap; trapped = trapped; is = is_ecall; change = change }))
     ])

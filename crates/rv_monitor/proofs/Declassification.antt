@@ -183,9 +183,9 @@ module _ (enclave hart : ℕ) (one other : MonitoredMachine) (invariant_one : In
   low_step : IsLowStep enclave hart one other → Outcomes × Related
   low_step low_both_steps = elim (cases_Bool (runs one.shared.table enclave)) [
     | inl running ↦
-        let low_both =
+        let (outcomes_equal, related_after) =
         low_while_running enclave hart one other invariant_one invariant_other related low_both_steps running in
-        (λ not_running. low_both.0, low_both.1)
+        (λ not_running. outcomes_equal, related_after)
     | inr idle ↦
         let equiv = related_equiv enclave one other related (λ running. absurd (both_ways _ idle running)) in
         let step = guest_step_equiv enclave hart one other invariant_one invariant_other equiv low_both_steps.low in (
@@ -274,29 +274,30 @@ pub declassification_law : DeclassificationLaw
 declassification_law enclave [] one other invariant_one invariant_other related are_moves =
     record { outcomes = tt; state = related }
 -- the first machine alone makes a step of the enclave, which leaves the machines related
-declassification_law enclave (First hart ∷ moves) one other invariant_one invariant_other related are_moves =
+declassification_law enclave (First hart ∷ moves) one other invariant_one invariant_other related (is_inside, are_later_moves) =
     let remaining =
     declassification_law enclave moves (step_of hart one).state other (invariant_law hart one invariant_one) invariant_other
-    (enclave_step_keeps_relation enclave hart one other invariant_one related are_moves.0) are_moves.1 in
+    (enclave_step_keeps_relation enclave hart one other invariant_one related is_inside) are_later_moves in
     record { outcomes = remaining.outcomes; state = remaining.state }
 -- the second machine alone makes a step of the enclave; the relation is symmetric
-declassification_law enclave (Second hart ∷ moves) one other invariant_one invariant_other related are_moves =
+declassification_law enclave (Second hart ∷ moves) one other invariant_one invariant_other related (is_inside, are_later_moves) =
     let after = (step_of hart other).state in
     let remaining = declassification_law enclave moves one after invariant_one (invariant_law hart other invariant_other)
     (swapped enclave after one (enclave_step_keeps_relation enclave hart other one invariant_other
-    (swapped enclave one other related) are_moves.0)) are_moves.1 in
+    (swapped enclave one other related) is_inside)) are_later_moves in
     record { outcomes = remaining.outcomes; state = remaining.state }
 -- both machines make a low step or an exit
-declassification_law enclave (Both (StepOf hart) ∷ moves) one other invariant_one invariant_other related are_moves =
-    let step = step_of_both_keeps_relation enclave hart one other invariant_one invariant_other related are_moves.0 in
+declassification_law enclave (Both (StepOf hart) ∷ moves) one other invariant_one invariant_other related (low_or_exit, are_later_moves) =
+    let (outcomes_equal, related_after) =
+    step_of_both_keeps_relation enclave hart one other invariant_one invariant_other related low_or_exit in
     let remaining =
     declassification_law enclave moves (step_of hart one).state (step_of hart other).state (invariant_law hart one invariant_one)
     (invariant_law hart other invariant_other)
-    step.1 are_moves.1 in
-    record { outcomes = (step.0, remaining.outcomes); state = remaining.state }
+    related_after are_later_moves in
+    record { outcomes = (outcomes_equal, remaining.outcomes); state = remaining.state }
 -- the same timer line changes in both machines
-declassification_law enclave (Both (LineOf hart raised) ∷ moves) one other invariant_one invariant_other related are_moves =
+declassification_law enclave (Both (LineOf hart raised) ∷ moves) one other invariant_one invariant_other related (_, are_later_moves) =
     let remaining = declassification_law enclave moves (with_timer hart one raised) (with_timer hart other raised)
     (line_invariant hart raised one invariant_one)
-    (line_invariant hart raised other invariant_other) (line_related enclave hart raised one other related) are_moves.1 in
+    (line_invariant hart raised other invariant_other) (line_related enclave hart raised one other related) are_later_moves in
     record { outcomes = remaining.outcomes; state = remaining.state }

@@ -51,7 +51,8 @@ module _ (hart : ℕ) (machine : MonitoredMachine) (invariant : Invariant machin
   same_if_given : {state : MonitoredMachine} {entered : Option ℕ}
       → (stepped.state ≡ state) × (stepped.outcome.entered ≡ entered)
       → (other_stepped.state ≡ state) × (other_stepped.outcome.entered ≡ entered) → SameResult
-  same_if_given first_is second_is = (first_is.0 ∙ sym second_is.0, first_is.1 ∙ sym second_is.1)
+  same_if_given (first_state_is, first_entered_is) (second_state_is, second_entered_is) =
+      (first_state_is ∙ sym second_state_is, first_entered_is ∙ sym second_entered_is)
 
   -- two results that are both an entry of one slot by a call are equal
   same_entry : (trap : Trap) (slot : ℕ) → EntersByCall hart machine stepped trap slot
@@ -114,7 +115,9 @@ module _ (hart : ℕ) (machine : MonitoredMachine) (invariant : Invariant machin
       -- a call that `call_at` finds is offered to the running world
       offered : (call : Call) → call_at hart machine ≡ Some call → is_offered hart_state.world call ≡ true
       offered call requested =
-          (requested-is_offered hart_state.world hart_state.hart.regs call (numbered_call_is_requested hart_state machine.shared call requested)).1
+          let (_, call_is_offered) =
+          requested-is_offered hart_state.world hart_state.hart.regs call (numbered_call_is_requested hart_state machine.shared call requested) in
+          call_is_offered
 
       -- two results of a run or resume are equal
       same_by_entry : (call : Call) (world : World) → hart_state.world ≡ world → is_offered hart_state.world call ≡ true
@@ -204,8 +207,8 @@ module _ (hart : ℕ) (machine : MonitoredMachine) (invariant : Invariant machin
   -- two results of one step that both obey the five laws are equal
   pub same_steps : stepped ≡ other_stepped
   same_steps =
-      let results = same_by_trap stepped.outcome.step.trap refl in
-      results_equal stepped other_stepped results.0 same_step_outcome results.1
+      let (states_equal, entered_slots_equal) = same_by_trap stepped.outcome.step.trap refl in
+      results_equal stepped other_stepped states_equal same_step_outcome entered_slots_equal
 
 -- proves that the five laws determine the step
 pub determined_law : DeterminedLaw

@@ -77,9 +77,9 @@ module _ (slot : ℕ) (view : HartView) (view_invariant : HartViewInvariant view
   accesses_own : (mode : Mode) (access : Access) (span : Span) → is_machine mode ≡ false
       → MayTouch (bare_machine view) mode access (Some span)
       → IsSeen (is_beyond view.shared.table slot) span.addr (bytes_in span.len)
-  accesses_own mode access span mode_below_m may_touch =
+  accesses_own mode access span mode_below_m (inside_memory, permitted) =
       let accessible =
-      sym (access_control_law view mode access span.addr span.len view_invariant (below_M mode mode_below_m) may_touch.0) ∙ may_touch.1 in
+      sym (access_control_law view mode access span.addr span.len view_invariant (below_M mode mode_below_m) inside_memory) ∙ permitted in
       accessible_bytes_are_own view.shared.memory view.shared.table slot access span.addr (bytes_in span.len)
       (subst (λ (world : World). is_accessible view.shared.memory view.shared.table world access
       (bytes_from span.addr (bytes_in span.len)) ≡ true) runs_enclave accessible)
@@ -101,7 +101,8 @@ request_is_offered : (cause : Cause) (hart_state : HartState) (is_ecall : Bool) 
     → is_offered hart_state.world call ≡ true
 request_is_offered cause hart_state true call is_call_is requested =
     let request_is : requested_call hart_state.world hart_state.hart.regs ≡ Some call = rw is_call_is at requested in
-    (requested-is_offered hart_state.world hart_state.hart.regs call request_is).1
+    let (_, call_is_offered) = requested-is_offered hart_state.world hart_state.hart.regs call request_is in
+    call_is_offered
 request_is_offered cause hart_state false call is_call_is requested =
     let contradiction : None ≡ Some call = rw is_call_is at requested in cc
 
@@ -177,11 +178,13 @@ module _ (slot : ℕ) (hart_state : HartState) (runs_enclave : hart_state.world 
       answers = λ status result. (record { region = refl; window = refl }, refl);
       -- an enclave may neither create, destroy nor enter, so these cases have a false premise
       creates =
-          λ requests no_refusal. create_not_offered _ slot hart_state.world runs_enclave
-          (requested-is_offered hart_state.world hart_state.hart.regs Create requests.asked).1;
+          λ requests no_refusal.
+          let (_, create_is_offered) = requested-is_offered hart_state.world hart_state.hart.regs Create requests.asked in
+          create_not_offered _ slot hart_state.world runs_enclave create_is_offered;
       destroys =
-          λ requests slot_accepted. destroy_not_offered _ slot hart_state.world runs_enclave
-          (requested-is_offered hart_state.world hart_state.hart.regs Destroy requests.asked).1;
+          λ requests slot_accepted.
+          let (_, destroy_is_offered) = requested-is_offered hart_state.world hart_state.hart.regs Destroy requests.asked in
+          destroy_not_offered _ slot hart_state.world runs_enclave destroy_is_offered;
       measures =
           λ requests no_refusal. (record { region = refl; window = refl }, write_keeps_size shared.memory _ _ (write shared.memory _ _) refl);
       enters =
@@ -242,8 +245,8 @@ own_alike_after_trap slot outcome (Some trap) hart_state one other runs_enclave 
     let handler_results =
     handler_reads_law hart_state trap one other (same_handler_reads slot hart_state runs_enclave trap one other same_context_count same_for_slot) in
     -- the trap handler keeps the region and the window, so a byte that is within them after the step was within them before
-    let keeps_one = handled_keeps slot hart_state runs_enclave trap one table_length in
-    let keeps_other =
+    let (extent_unchanged, size_unchanged) = handled_keeps slot hart_state runs_enclave trap one table_length in
+    let (_, other_size_unchanged) =
     handled_keeps slot hart_state runs_enclave trap other (ap (λ (table : Slots). length table) (sym same_for_slot.table) ∙ table_length) in
     let returned_by : HartState → Next → HartState =
     λ hart_state next. record hart_state { hart = returned_to hart_state.hart next.pc next.mode } in
@@ -255,10 +258,10 @@ own_alike_after_trap slot outcome (Some trap) hart_state one other runs_enclave 
       shared = record {
         table = handler_results.shared.table;
         memory = record {
-          size = keeps_one.1 ∙ same_for_slot.memory.size ∙ sym keeps_other.1;
+          size = size_unchanged ∙ same_for_slot.memory.size ∙ sym other_size_unchanged;
           bytes =
               λ index not_hidden. handler_results.shared.bytes index
-              (same_for_slot.memory.bytes index (within_before slot one.table _ _ keeps_one.0 not_hidden));
+              (same_for_slot.memory.bytes index (within_before slot one.table _ _ extent_unchanged not_hidden));
         };
         context = handler_results.shared.contexts slot same_for_slot.context;
       };

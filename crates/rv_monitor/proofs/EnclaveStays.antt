@@ -51,12 +51,12 @@ module _ (slot : ℕ) (view : HartView) (view_invariant : HartViewInvariant view
   stays_without_trap : (step (bare_machine view)).outcome.trap ≡ None → StaysBehind view (view_without_trap view)
   stays_without_trap no_trap =
       let after = step (bare_machine view) in
-      let parts_and_mode_kept = without_trap after.outcome.trap (StaysBelow view.hart_state.hart after.state.hart) no_trap
+      let (machine_parts_unchanged, _) = without_trap after.outcome.trap (StaysBelow view.hart_state.hart after.state.hart) no_trap
       (keeps_machine_parts (bare_machine view) view_invariant.hart.layout.mode view_invariant.hart.layout.mprv) in
       record {
         host = refl;
         rest =
-            sym (rest_ignores_machine_parts view.hart_state.hart.csrs) ∙ ap rest (sym parts_and_mode_kept.0)
+            sym (rest_ignores_machine_parts view.hart_state.hart.csrs) ∙ ap rest (sym machine_parts_unchanged)
             ∙ rest_ignores_machine_parts after.state.hart.csrs;
         table = refl;
         contexts = refl;
@@ -76,7 +76,7 @@ module _ (slot : ℕ) (view : HartView) (view_invariant : HartViewInvariant view
         × (rest view.hart_state.hart.csrs ≡ rest (returned_to result.hart_state.hart result.next.pc result.next.mode).csrs)
         × (view.shared.table ≡ result.shared.table) × (view.shared.contexts ≡ result.shared.contexts)
 
-    -- the result of the trap handler satisfies `Stays`
+    -- the result of the trap handler satisfies `StaysIfRunning`
     handler_stays : StaysIfRunning (handled hart_state view.shared trap)
     unfolding measured left with_redirected_trap
     handler_stays =
@@ -85,11 +85,13 @@ module _ (slot : ℕ) (view : HartView) (view_invariant : HartViewInvariant view
         handler_cases hart_state trap view.shared StaysIfRunning (record {
           answers = λ status result enclave_runs_after. (refl, rw mprv refl, refl, refl);
           creates =
-              λ requests no_refusal. create_not_offered _ slot hart_state.world runs_enclave
-              (requested-is_offered hart_state.world hart_state.hart.regs _ requests.asked).1;
+              λ requests no_refusal.
+              let (_, create_is_offered) = requested-is_offered hart_state.world hart_state.hart.regs _ requests.asked in
+              create_not_offered _ slot hart_state.world runs_enclave create_is_offered;
           destroys =
-              λ requests slot_accepted. destroy_not_offered _ slot hart_state.world runs_enclave
-              (requested-is_offered hart_state.world hart_state.hart.regs _ requests.asked).1;
+              λ requests slot_accepted.
+              let (_, destroy_is_offered) = requested-is_offered hart_state.world hart_state.hart.regs _ requests.asked in
+              destroy_not_offered _ slot hart_state.world runs_enclave destroy_is_offered;
           measures = λ requests no_refusal enclave_runs_after. (refl, rw mprv refl, refl, refl);
           enters =
               λ call requests is_entry_call from_host slot_accepted. not_host _ slot hart_state.world runs_enclave from_host;
@@ -101,13 +103,14 @@ module _ (slot : ℕ) (view : HartView) (view_invariant : HartViewInvariant view
     stays_with_trap : is_host (returned outcome (handled hart_state view.shared trap)).state.hart_state.world ≡ false
         → StaysBehind view (returned outcome (handled hart_state view.shared trap))
     stays_with_trap enclave_runs_after =
-        let stays = handler_stays enclave_runs_after in
+        let (host_unchanged, rest_unchanged, table_unchanged, contexts_unchanged) = handler_stays enclave_runs_after in
+        let (_, size_unchanged) = handled_keeps slot hart_state runs_enclave trap view.shared view_invariant.valid.count in
         record {
-          host = stays.0;
-          rest = stays.1;
-          table = stays.2;
-          contexts = stays.3;
-          size = sym (handled_keeps slot hart_state runs_enclave trap view.shared view_invariant.valid.count).1;
+          host = host_unchanged;
+          rest = rest_unchanged;
+          table = table_unchanged;
+          contexts = contexts_unchanged;
+          size = sym size_unchanged;
         }
 
   -- each step after which an enclave still runs leaves unchanged what `StaysBehind` names
@@ -142,8 +145,8 @@ module _ (slot : ℕ) (view : HartView) (view_invariant : HartViewInvariant view
   unchanged_beyond byte byte_beyond (inr (inr call)) = elim call.change [
     -- no destroy is offered to an enclave
     | inl destroyed ↦
-        destroy_not_offered _ slot view.hart_state.world runs_enclave
-        (requested-is_offered view.hart_state.world view.hart_state.hart.regs _ destroyed.asked).1
+        let (_, destroy_is_offered) = requested-is_offered view.hart_state.world view.hart_state.hart.regs _ destroyed.asked in
+        destroy_not_offered _ slot view.hart_state.world runs_enclave destroy_is_offered
     -- a measure writes only bytes in the region and the window
     | inr measured ↦
         not_within_and_beyond byte (writes_within byte 1 byte measured.accessible (omega arith) (omega arith)) byte_beyond _

@@ -144,7 +144,8 @@ module _ (first_slot second_slot : ℕ) (hart : Hart) (m_csrs : CsrState) (pc : 
   requested_call_alike None requested =
       returns_alike first_shared second_shared (status_of NotSupported) 0 memories_equal records_equal
   requested_call_alike (Some call) requested =
-      call_alike call (requested-is_offered (Enclave first_slot) hart.regs call requested).1
+      let (_, call_is_offered) = requested-is_offered (Enclave first_slot) hart.regs call requested in
+      call_alike call call_is_offered
 
   -- both enclaves request the same call
   same_request : requested_call (Enclave first_slot) hart.regs ≡ requested_call (Enclave second_slot) hart.regs
@@ -343,8 +344,8 @@ exited place machine trap invariant runs trapped host_runs_after (Some host) hos
     let after = enclave_state_after trap.cause hart.regs in
     let count = invariant.shared.valid.count in
     let contexts = invariant.shared.contexts.count in
-    let left_machine_is =
-    (leave_law place.hart machine invariant place.slot host trap world host_context_is trapped host_runs_after).0 in
+    let (left_machine_is, _) =
+    leave_law place.hart machine invariant place.slot host trap world host_context_is trapped host_runs_after in
     let hart_state_is = left_hart_state place.hart machine place.slot trap host in_range in
     let live = running_is_live place.slot place.hart machine invariant runs in
     let slot_in_range = live_slot_in_range table place.slot slot count refl live in
@@ -600,13 +601,14 @@ enclave_run_law place other_place (suc zero) one other invariant_one invariant_o
     let step = enclave_step place other_place one other invariant_one invariant_other same_enclave in
     record { outcomes = ap (λ (outcome : Outcome). outcome ∷ []) step.outcome; state = step.state }
 -- several steps: the first one leaves both enclaves in the same state, because the enclave runs before the second one
-enclave_run_law place other_place (suc (suc count)) one other invariant_one invariant_other same_enclave are_high_steps =
+enclave_run_law place other_place (suc (suc count)) one other invariant_one invariant_other same_enclave (_, are_later_high_steps) =
+    let (runs_after_first_step, _) = are_later_high_steps in
     let step = enclave_step place other_place one other invariant_one invariant_other same_enclave in
     let remaining =
     enclave_run_law place other_place (suc count) (step_at place one).state (step_at other_place other).state
     (invariant_law place.hart one invariant_one)
     (invariant_law other_place.hart other invariant_other)
-    (step.state.runs are_high_steps.1.0) are_high_steps.1 in
+    (step.state.runs runs_after_first_step) are_later_high_steps in
     record {
       outcomes =
           ap₂ (λ (outcome : Outcome) (outcomes : List Outcome). outcome ∷ outcomes) step.outcome remaining.outcomes;

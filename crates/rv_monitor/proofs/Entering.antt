@@ -172,11 +172,11 @@ enters_from hart machine invariant slot context trap from_host has_context trapp
     λ maybe_context. IfSome maybe_context (λ some_context. can_go_on some_context ≡ true) in
     let can_continue : can_go_on context ≡ true = subst CanGoOnIfSome has_context (invariant.shared.contexts.held slot) in
     -- the step of the view enters the slot, because the hart is in the slot after the step
-    let view_enters =
+    let (view_state_is, view_entered_is) =
     step_is_entry (hart_view hart machine) slot context from_host has_context trap
     (hart_view_invariant hart machine invariant trapping.has) can_continue trapping.trapped view_ends_in_slot in
     -- the step of the machine is the step of the view, after which all harts are reprogrammed for the new table
-    (trapping.state ∙ ap (programmed_by hart machine) view_enters.0, ap (λ (outcome : Outcome). outcome.entered) trapping.outcome ∙ view_enters.1)
+    (trapping.state ∙ ap (programmed_by hart machine) view_state_is, ap (λ (outcome : Outcome). outcome.entered) trapping.outcome ∙ view_entered_is)
 
 -- the hart runs the host before its step, and enclave `slot` after it
 module _ (hart slot : ℕ) (machine : MonitoredMachine) (invariant : Invariant machine) (from_host : (hart_state_of hart machine).world ≡ Host)
@@ -212,9 +212,9 @@ module _ (hart slot : ℕ) (machine : MonitoredMachine) (invariant : Invariant m
       ap (λ (maybe_context : Option Context). is_some maybe_context) (sym no_context) ∙ slot_has_context in
       cc
   entry_with_context trap trapped (Some context) has_context =
-      let entry_is =
+      let (state_is, entered_is) =
       enters_from hart machine invariant slot context trap from_host has_context trapped enclave_runs_after in
-      record { trap = trap; trapped = trapped; call = record { context = context; kept = has_context; state = entry_is.0; entered = entry_is.1 } }
+      record { trap = trap; trapped = trapped; call = record { context = context; kept = has_context; state = state_is; entered = entered_is } }
 
   -- a step that ends in `slot` has a trap, and enters `slot` with its saved context
   entry_by_trap : (maybe_trap : Option Trap) → (step_of hart machine).outcome.step.trap ≡ maybe_trap

@@ -87,22 +87,22 @@ module _ (enclave hart : ℕ) (raised : Bool) (one other : MonitoredMachine) whe
 pub event_law : EventLaw
 event_law enclave [] one other invariant_one invariant_other equiv low_steps = record { outcomes = refl; state = equiv }
 -- a low step has equal outcomes and leaves equivalent machines
-event_law enclave (StepOf hart ∷ rest_events) one other invariant_one invariant_other equiv low_steps =
-    let first_step = noninterference hart one invariant_one enclave other invariant_other equiv low_steps.0 in
+event_law enclave (StepOf hart ∷ rest_events) one other invariant_one invariant_other equiv (not_running, rest_are_low) =
+    let first_step = noninterference hart one invariant_one enclave other invariant_other equiv not_running in
     let remaining =
     event_law enclave rest_events (step_of hart one).state (step_of hart other).state (invariant_law hart one invariant_one)
     (invariant_law hart other invariant_other)
-    first_step.state low_steps.1 in
+    first_step.state rest_are_low in
     record {
       outcomes =
           ap₂ (λ (outcome : Outcome) (outcomes : List Outcome). outcome ∷ outcomes) first_step.outcome remaining.outcomes;
       state = remaining.state;
     }
 -- a change of a timer line has no outcome and leaves equivalent machines
-event_law enclave (LineOf hart raised ∷ rest_events) one other invariant_one invariant_other equiv low_steps =
+event_law enclave (LineOf hart raised ∷ rest_events) one other invariant_one invariant_other equiv (_, rest_are_low) =
     let remaining =
     event_law enclave rest_events (with_timer hart one raised) (with_timer hart other raised) (line_invariant hart raised one invariant_one)
-    (line_invariant hart raised other invariant_other) (line_equiv enclave hart raised one other equiv) low_steps.1 in
+    (line_invariant hart raised other invariant_other) (line_equiv enclave hart raised one other equiv) rest_are_low in
     record {
       outcomes =
           ap (λ (outcomes : List Outcome). (event_of (LineOf hart raised) one).outcome ∷ outcomes) remaining.outcomes;
@@ -146,7 +146,7 @@ untouched_but_line slot before after untouched =
 undisturbed_live : (slot : ℕ) (events : List Event) (machine : MonitoredMachine) → AreUndisturbing slot events machine
     → is_live machine.shared.table slot ≡ true
 undisturbed_live slot [] machine undisturbed = undisturbed
-undisturbed_live slot (event ∷ rest_events) machine undisturbed = undisturbed.0
+undisturbed_live slot (event ∷ rest_events) machine (live, _, _) = live
 
 -- proves the integrity law for events, by induction on the list
 pub event_integrity : EventIntegrityLaw
@@ -158,17 +158,17 @@ event_integrity slot [] machine invariant undisturbed = record {
       (invariant.hart_states hart (running_hart_in_range slot hart machine runs))));
 }
 -- a step leaves the enclave untouched, by the integrity of one step
-event_integrity slot (StepOf hart ∷ rest_events) machine invariant undisturbed =
+event_integrity slot (StepOf hart ∷ rest_events) machine invariant (live, (not_running, not_entered), rest_undisturbed) =
     let after = (step_of hart machine).state in
     untouched_but_line_twice slot machine after (events rest_events after).state
     (untouched_but_line slot machine after
-    (integrity hart machine invariant slot undisturbed.1.0 undisturbed.0 undisturbed.1.1 (undisturbed_live slot rest_events after undisturbed.2)))
-    (event_integrity slot rest_events after (invariant_law hart machine invariant) undisturbed.2)
+    (integrity hart machine invariant slot not_running live not_entered (undisturbed_live slot rest_events after rest_undisturbed)))
+    (event_integrity slot rest_events after (invariant_law hart machine invariant) rest_undisturbed)
 -- a change of a timer line leaves the enclave untouched, except for the timer line
-event_integrity slot (LineOf hart raised ∷ rest_events) machine invariant undisturbed =
+event_integrity slot (LineOf hart raised ∷ rest_events) machine invariant (live, _, rest_undisturbed) =
     let after = with_timer hart machine raised in
     untouched_but_line_twice slot machine after (events rest_events after).state (line_change_leaves_untouched slot hart raised machine invariant)
-    (event_integrity slot rest_events after (line_invariant hart raised machine invariant) undisturbed.2)
+    (event_integrity slot rest_events after (line_invariant hart raised machine invariant) rest_undisturbed)
 
 -- ---- the other harts and every timer line leave a running enclave undisturbed
 
@@ -184,18 +184,18 @@ none_after_line : (slot hart : ℕ) (raised : Bool) (events : List Event) (machi
     → StepsNone slot events machine
     → StepsNone slot events (with_timer hart machine raised)
 none_after_line slot hart raised [] machine steps_none = tt
-none_after_line slot hart raised (StepOf running_hart ∷ rest_events) machine steps_none =
-    (line_worlds slot hart running_hart raised machine ∙ steps_none.0, none_after_line slot hart raised rest_events machine steps_none.1)
-none_after_line slot hart raised (LineOf running_hart is_raised ∷ rest_events) machine steps_none =
+none_after_line slot hart raised (StepOf stepping_hart ∷ rest_events) machine (not_running, rest_steps_none) =
+    (line_worlds slot hart stepping_hart raised machine ∙ not_running, none_after_line slot hart raised rest_events machine rest_steps_none)
+none_after_line slot hart raised (LineOf line_hart is_raised ∷ rest_events) machine steps_none =
     none_after_line slot hart raised rest_events machine steps_none
 
 -- if no event of a list steps a hart that runs the enclave, then this also holds after a step that does not enter the enclave
 none_after_step : (slot hart : ℕ) (events : List Event) (machine : MonitoredMachine) → StepsNone slot events machine
     → enters slot (step_of hart machine).outcome.entered ≡ false → StepsNone slot events (step_of hart machine).state
 none_after_step slot hart [] machine steps_none not_entered = tt
-none_after_step slot hart (StepOf running_hart ∷ rest_events) machine steps_none not_entered =
-    (entry_law slot hart running_hart machine steps_none.0 not_entered, none_after_step slot hart rest_events machine steps_none.1 not_entered)
-none_after_step slot hart (LineOf running_hart is_raised ∷ rest_events) machine steps_none not_entered =
+none_after_step slot hart (StepOf stepping_hart ∷ rest_events) machine (not_running, rest_steps_none) not_entered =
+    (entry_law slot hart stepping_hart machine not_running not_entered, none_after_step slot hart rest_events machine rest_steps_none not_entered)
+none_after_step slot hart (LineOf line_hart is_raised ∷ rest_events) machine steps_none not_entered =
     none_after_step slot hart rest_events machine steps_none not_entered
 
 -- proves that events of other harts leave a running enclave undisturbed
@@ -203,17 +203,17 @@ pub running_events : RunningEventLaw
 running_events slot running_hart [] machine invariant runs_on_hart steps_none =
     running_is_live slot running_hart machine invariant runs_on_hart
 -- a step of another hart neither enters nor destroys the enclave, and the enclave still runs on its hart
-running_events slot running_hart (StepOf hart ∷ rest_events) machine invariant runs_on_hart steps_none =
+running_events slot running_hart (StepOf hart ∷ rest_events) machine invariant runs_on_hart (not_running, rest_steps_none) =
     let after = (step_of hart machine).state in
     let live = running_is_live slot running_hart machine invariant runs_on_hart in
-    let continues = others_keep_running_law hart machine invariant slot running_hart runs_on_hart steps_none.0 in
-    let preserved = integrity hart machine invariant slot steps_none.0 live continues.passes continues.live in
+    let continues = others_keep_running_law hart machine invariant slot running_hart runs_on_hart not_running in
+    let preserved = integrity hart machine invariant slot not_running live continues.passes continues.live in
     let runs_after : runs_on slot running_hart after ≡ true =
     ap (λ (hart_state : HartState). is_world_of slot hart_state.world) (preserved.hart_state running_hart runs_on_hart) ∙ runs_on_hart in (
       live,
-      (steps_none.0, continues.passes),
+      (not_running, continues.passes),
       running_events slot running_hart rest_events after (invariant_law hart machine invariant) runs_after
-          (none_after_step slot hart rest_events machine steps_none.1 continues.passes),
+          (none_after_step slot hart rest_events machine rest_steps_none continues.passes),
     )
 -- a change of a timer line does not change which enclave runs on which hart
 running_events slot running_hart (LineOf hart raised ∷ rest_events) machine invariant runs_on_hart steps_none = (

@@ -159,24 +159,24 @@ module _ (hart_state : HartState) (trap : Trap) (table : Slots) (memory other_me
     by-accepted Destroy requests no_refusal = cases.destroys requests (may_take table Destroy (a0 hart_state) no_refusal)
     -- run and resume are offered only to the host
     by-accepted Run requests no_refusal =
-        let is_offered_call = requested-is_offered hart_state.world hart_state.hart.regs Run requests.asked in
-        cases.enters Run requests refl (entered-by-host hart_state.world Run refl is_offered_call.1) (may_take table Run (a0 hart_state) no_refusal)
+        let (_, call_is_offered) = requested-is_offered hart_state.world hart_state.hart.regs Run requests.asked in
+        cases.enters Run requests refl (entered-by-host hart_state.world Run refl call_is_offered) (may_take table Run (a0 hart_state) no_refusal)
     by-accepted Resume requests no_refusal =
-        let is_offered_call = requested-is_offered hart_state.world hart_state.hart.regs Resume requests.asked in
-        cases.enters Resume requests refl (entered-by-host hart_state.world Resume refl is_offered_call.1)
+        let (_, call_is_offered) = requested-is_offered hart_state.world hart_state.hart.regs Resume requests.asked in
+        cases.enters Resume requests refl (entered-by-host hart_state.world Resume refl call_is_offered)
         (may_take table Resume (a0 hart_state) no_refusal)
     by-accepted Measure requests no_refusal =
         cases.measures requests
         (may_measure first_shared hart_state.hart.csrs.pmp (measured_slot hart_state.world (a0 hart_state)) (a1 hart_state) no_refusal)
     -- a6 has the number of stop, so the exit is that of stop
     by-accepted Stop requests no_refusal =
-        let a6_test =
-        stop_is_not_exit (register hart_state.hart.regs 16) (requested-is_offered hart_state.world hart_state.hart.regs Stop requests.asked).0 in
+        let (a6_has_number, _) = requested-is_offered hart_state.world hart_state.hart.regs Stop requests.asked in
+        let a6_test = stop_is_not_exit (register hart_state.hart.regs 16) a6_has_number in
         rw a6_test at (by-leaving (causes.Exception EnvironmentCallFromS) requests.is_call)
     -- a6 has the number of exit, so the exit is that of the call exit
     by-accepted Exit requests no_refusal =
-        let a6_test =
-        exit_is_exit (register hart_state.hart.regs 16) (requested-is_offered hart_state.world hart_state.hart.regs Exit requests.asked).0 in
+        let (a6_has_number, _) = requested-is_offered hart_state.world hart_state.hart.regs Exit requests.asked in
+        let a6_test = exit_is_exit (register hart_state.hart.regs 16) a6_has_number in
         rw a6_test at (by-leaving (causes.Exception EnvironmentCallFromS) requests.is_call)
 
     -- a call has the same refusals in both shared states

@@ -79,7 +79,7 @@ invariant_after_step hart machine invariant in_range =
     let after = monitored_step (hart_view hart machine) in
     let table = after.state.shared.table in
     let trap = after.outcome.step.trap in
-    let view_invariant_after = invariant_of_others hart machine invariant in_range in
+    let (shared_invariant_after, hart_invariant_after) = invariant_of_others hart machine invariant in_range in
     let same_length = stepped_count hart machine after in
     record {
       -- the shared invariant holds for the world of the stepping hart in front, and so for the list of worlds in the order of the harts
@@ -88,13 +88,13 @@ invariant_after_step hart machine invariant in_range =
           ∙ ap (λ (worlds : List World). slice_set worlds hart after.state.hart_state.world)
           (reprogramming_keeps_worlds trap table machine.hart_states)))
           (shared_invariant-moved_back after.state.shared (worlds machine) hart after.state.hart_state.world
-          (world_index_in_range hart machine in_range) view_invariant_after.0);
+          (world_index_in_range hart machine in_range) shared_invariant_after);
       -- the stepping hart keeps its invariant, and each other hart is reprogrammed for the new table
       hart_states = λ other_hart other_in_new_range.
           let other_in_range : other_hart < count_of machine = omega (arith, same_length, other_in_new_range) in
           elim (cases_eq other_hart hart) [
             | inl is_stepping_hart ↦
-                subst (HartInvariant table) (sym (stepping_hart_state hart machine after other_hart is_stepping_hart in_range)) view_invariant_after.1
+                subst (HartInvariant table) (sym (stepping_hart_state hart machine after other_hart is_stepping_hart in_range)) hart_invariant_after
             | inr is_other_hart ↦
                 subst (HartInvariant table)
                 (sym (other_hart_state hart machine after other_hart is_other_hart other_in_range

@@ -115,10 +115,10 @@ leave_law hart machine invariant slot host trap runs host_is_saved trapped host_
     let trapping = is_trapping hart machine trap trapped in
     let view_runs_host =
     sym (ap (λ (after : HartViewStepped). after.state.hart_state.world) (step_of_view hart machine trapping.has)) ∙ host_runs_after in
-    let view_exit =
+    let (view_state_is, view_entered_none) =
     step_is_exit (hart_view hart machine) slot host runs host_is_saved trap
     (hart_view_invariant hart machine invariant trapping.has) trapping.trapped view_runs_host in
-    (trapping.state ∙ ap (programmed_by hart machine) view_exit.0, ap (λ (outcome : Outcome). outcome.entered) trapping.outcome ∙ view_exit.1)
+    (trapping.state ∙ ap (programmed_by hart machine) view_state_is, ap (λ (outcome : Outcome). outcome.entered) trapping.outcome ∙ view_entered_none)
 
 -- the state of the hart after an exit is the state that `left_hart` gives
 pub left_hart_state : (hart : ℕ) (machine : MonitoredMachine) (slot : ℕ) (trap : Trap) (host : Context) → hart < count_of machine

@@ -110,7 +110,7 @@ abbrev EntersFromHost : ℕ → HartView → HartViewStepped → Type 0
 EntersFromHost slot view after =
     after.outcome.entered ≡ Some slot → (view.hart_state.world ≡ Host) × (after.state.hart_state.world ≡ Enclave slot)
 
--- each step of a view satisfies `EntersHere`
+-- each step of a view satisfies `EntersFromHost`
 entry_from_host : (slot : ℕ) (view : HartView) → EntersFromHost slot view (monitored_step view)
 entry_from_host slot view = step_cases view (EntersFromHost slot view) (λ no_trap enters_slot. cc)
     (λ trap traps enters_slot.
@@ -128,9 +128,9 @@ worlds_around_entry slot hart machine enters_slot = elim (cases_lt hart (count_o
       cc
   | inl in_range ↦
       let step_is = step_of_view hart machine in_range in
-      let worlds_of_view =
+      let (host_before, enclave_after) =
       entry_from_host slot (hart_view hart machine) (sym (ap (λ (stepped : HartViewStepped). stepped.outcome.entered) step_is) ∙ enters_slot) in
-      (worlds_of_view.0, ap (λ (stepped : HartViewStepped). stepped.state.hart_state.world) step_is ∙ worlds_of_view.1)
+      (host_before, ap (λ (stepped : HartViewStepped). stepped.state.hart_state.world) step_is ∙ enclave_after)
 ]
 
 -- the enclave continues with this context before a step, and is live before and after the step
@@ -183,10 +183,11 @@ module _ (slot hart : ℕ) (machine : MonitoredMachine) (context : Context) (inv
   entered_stays : enters slot (step_of hart machine).outcome.entered ≡ true
       → StaysAtPoint slot context machine (step_of hart machine).state
   entered_stays enters_slot =
-      let worlds_of_step =
+      -- the hart runs the host before the step, and the enclave after it
+      let (host_before, enclave_after) =
       worlds_around_entry slot hart machine (entered_some slot (step_of hart machine).outcome.entered enters_slot) in
       -- the step is an entry by a call, which restores the saved context of the slot
-      let entry = enter_law hart machine invariant slot worlds_of_step.0 worlds_of_step.1 in
+      let entry = enter_law hart machine invariant slot host_before enclave_after in
       let saved = entry.call.kept in
       let saved_context = entry.call.context in
       let saved_contexts_equal : Some saved_context ≡ Some context =
@@ -202,7 +203,7 @@ module _ (slot hart : ℕ) (machine : MonitoredMachine) (context : Context) (inv
       get_or-set_at (map (reprogrammed table_after) machine.hart_states) hart hart _ (hart_state_at_start 0) refl
       (omega (arith, same_length, in_range)) in
       let runs_after : runs_on slot hart (step_of hart machine).state ≡ true =
-      ap (is_world_of slot) worlds_of_step.1 ∙ eq-eqb slot slot refl in
+      ap (is_world_of slot) enclave_after ∙ eq-eqb slot slot refl in
       -- the hart continues with the saved context
       let continuation_is : continuation (hart_state_of hart (step_of hart machine).state).hart
       ≡ record saved_context { supervisor = s_context (with_s_context (hart_state_of hart machine).hart.csrs saved_context.supervisor) } =
@@ -244,7 +245,7 @@ module _ (slot hart : ℕ) (machine : MonitoredMachine) (context : Context) (inv
       → StaysAtPoint slot context machine (step_of hart machine).state
   interrupted_stays runs_on_hart timer_set =
       -- the interrupt exits to the host, and saves the context of the enclave
-      let exit = (timer_exit (hart_state_of hart machine).host_context refl runs_on_hart timer_set).1 in
+      let (_, exit) = timer_exit (hart_state_of hart machine).host_context refl runs_on_hart timer_set in
       let has_exited =
       exited (at slot hart) machine timer_trap invariant runs_on_hart exit.trapped exit.world (hart_state_of hart machine).host_context refl in
       -- the saved pc is the pc of the hart, because this pc is a multiple of 4
@@ -280,8 +281,8 @@ foreign_stays : (slot : ℕ) (event : Event) (machine : MonitoredMachine) (conte
     → ContinuesWith slot context machine
     → is_live machine.shared.table slot ≡ true → IsForeign slot event machine
     → StaysAtPoint slot context machine (event_of event machine).state
-foreign_stays slot (StepOf hart) machine context invariant legal continues live foreign =
-    step_stays slot hart machine context invariant continues live foreign.1 legal foreign.0
+foreign_stays slot (StepOf hart) machine context invariant legal continues live (idle_or_interrupted, live_after) =
+    step_stays slot hart machine context invariant continues live live_after legal idle_or_interrupted
 foreign_stays slot (LineOf hart raised) machine context invariant legal continues live foreign =
     line_stays slot hart raised machine context continues live
 
@@ -340,11 +341,12 @@ accessible_span_is_own : (slot : ℕ) (machine : MonitoredMachine) (hart : ℕ) 
     → is_beyond machine.shared.table slot byte ≡ false
 accessible_span_is_own slot machine hart access None world is_accessible_span byte byte_in_span = cc
 accessible_span_is_own slot machine hart access (Some span) world is_accessible_span byte byte_in_span =
-    let bounds = and_parts _ _ byte_in_span in
+    -- the byte is at or after the start of the span, and before its end
+    let (start_test, end_test) = and_parts _ _ byte_in_span in
     accessible_bytes_are_own machine.shared.memory machine.shared.table slot access span.addr (bytes_in span.len)
     (subst (λ (world : World). is_accessible machine.shared.memory machine.shared.table world access
     (bytes_from span.addr (bytes_in span.len)) ≡ true) world is_accessible_span)
-    byte (leb-true _ _ bounds.0) (ltb-true _ _ bounds.1)
+    byte (leb-true _ _ start_test) (ltb-true _ _ end_test)
 
 -- an own step reads only bytes of the enclave's region and window
 reads_only_own_bytes : (place : Place) (machine : MonitoredMachine) → Invariant machine
@@ -534,7 +536,7 @@ module _ (place other_place : Place) (one other : MonitoredMachine) (invariant_o
         ∙ byte_within) in
         elim (same_over_memory.shared.changes index) [
           -- the step leaves the byte unchanged in both machines
-          | inl unchanged ↦ inl (bytes_equal ∙ unchanged.0, unchanged.1)
+          | inl (mixed_unchanged, other_unchanged) ↦ inl (bytes_equal ∙ mixed_unchanged, other_unchanged)
           -- the step changes the byte to the same value in both machines
           | inr changed_alike ↦ inr (bytes_equal ∙ changed_alike)
         ]
@@ -609,7 +611,7 @@ module _ (place other_place : Place) (one other : MonitoredMachine) (invariant_o
               ap (λ (block : Block). not (has block (ram_base + index))) (sym region_unchanged) ∙ outside_region in
               elim (changes index) [
                 -- an unchanged byte was equal before the step
-                | inl unchanged ↦ unchanged.0 ∙ point.memory.bytes index was_outside ∙ sym unchanged.1
+                | inl (one_unchanged, other_unchanged) ↦ one_unchanged ∙ point.memory.bytes index was_outside ∙ sym other_unchanged
                 -- a changed byte has the same new value in both machines
                 | inr changed_alike ↦ changed_alike
               ];
@@ -642,33 +644,33 @@ module _ (place other_place : Place) (one other : MonitoredMachine) (invariant_o
 pub life_law : LifeLaw
 life_law slot other_slot [] one other invariant_one invariant_other legal_one legal_other point are_moves = record { steps = tt; point = point }
 -- a foreign event of the first machine keeps both enclaves at one point
-life_law slot other_slot (InFirst event ∷ moves) one other invariant_one invariant_other legal_one legal_other point are_moves =
+life_law slot other_slot (InFirst event ∷ moves) one other invariant_one invariant_other legal_one legal_other point (is_foreign, are_later_moves) =
     let remaining =
     life_law slot other_slot moves (event_of event one).state other (event_invariant event one invariant_one) invariant_other
     (event_stored event one invariant_one legal_one) legal_other
-    (foreign_event_keeps_point slot other_slot event one other invariant_one legal_one point are_moves.0) are_moves.1 in
+    (foreign_event_keeps_point slot other_slot event one other invariant_one legal_one point is_foreign) are_later_moves in
     record { steps = remaining.steps; point = remaining.point }
 -- a foreign event of the second machine keeps both enclaves at one point, by symmetry
-life_law slot other_slot (InSecond event ∷ moves) one other invariant_one invariant_other legal_one legal_other point are_moves =
+life_law slot other_slot (InSecond event ∷ moves) one other invariant_one invariant_other legal_one legal_other point (is_foreign, are_later_moves) =
     let after = (event_of event other).state in
     let next =
     swapped other_slot slot after one (foreign_event_keeps_point other_slot slot event other one invariant_other legal_other
-    (swapped slot other_slot one other point) are_moves.0) in
+    (swapped slot other_slot one other point) is_foreign) in
     let remaining =
     life_law slot other_slot moves one after invariant_one (event_invariant event other invariant_other) legal_one
-    (event_stored event other invariant_other legal_other) next are_moves.1 in
+    (event_stored event other invariant_other legal_other) next are_later_moves in
     record { steps = remaining.steps; point = remaining.point }
 -- an own step is the same in both machines
-life_law slot other_slot (Own hart other_hart ∷ moves) one other invariant_one invariant_other legal_one legal_other point are_moves =
+life_law slot other_slot (Own hart other_hart ∷ moves) one other invariant_one invariant_other legal_one legal_other point (is_own, are_later_moves) =
     let place = at slot hart in
     let other_place = at other_slot other_hart in
     let remaining =
     life_law slot other_slot moves (step_of hart one).state (step_of other_hart other).state (invariant_law hart one invariant_one)
     (invariant_law other_hart other invariant_other)
     (event_stored (StepOf hart) one invariant_one legal_one) (event_stored (StepOf other_hart) other invariant_other legal_other)
-    (same_point_after place other_place one other invariant_one invariant_other point are_moves.0) are_moves.1 in
+    (same_point_after place other_place one other invariant_one invariant_other point is_own) are_later_moves in
     record {
-      steps = (own_step place other_place one other invariant_one invariant_other point are_moves.0, remaining.steps);
+      steps = (own_step place other_place one other invariant_one invariant_other point is_own, remaining.steps);
       point = remaining.point;
     }
 

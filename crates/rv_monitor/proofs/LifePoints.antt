@@ -46,14 +46,14 @@ runs_at_one_index : (slot : ℕ) (worlds : List World) → AreApart worlds → (
 runs_at_one_index slot [] worlds_apart index other_index runs_at_index runs_at_other =
     absurd (both_ways _ (ap (is_world_of slot) (get_or_past {X = World} [] index Host (omega arith))) runs_at_index)
 runs_at_one_index slot (world ∷ worlds) worlds_apart zero zero runs_at_index runs_at_other = refl
-runs_at_one_index slot (world ∷ worlds) worlds_apart zero (suc other_index) runs_at_index runs_at_other =
-    absurd (both_ways _ (worlds_apart.0 slot runs_at_index) (list_any_at (is_world_of slot) worlds other_index Host
+runs_at_one_index slot (world ∷ worlds) (first_apart, _) zero (suc other_index) runs_at_index runs_at_other =
+    absurd (both_ways _ (first_apart slot runs_at_index) (list_any_at (is_world_of slot) worlds other_index Host
     (hart_is_in_list slot worlds other_index runs_at_other) runs_at_other))
-runs_at_one_index slot (world ∷ worlds) worlds_apart (suc index) zero runs_at_index runs_at_other =
-    absurd (both_ways _ (worlds_apart.0 slot runs_at_other) (list_any_at (is_world_of slot) worlds index Host
+runs_at_one_index slot (world ∷ worlds) (first_apart, _) (suc index) zero runs_at_index runs_at_other =
+    absurd (both_ways _ (first_apart slot runs_at_other) (list_any_at (is_world_of slot) worlds index Host
     (hart_is_in_list slot worlds index runs_at_index) runs_at_index))
-runs_at_one_index slot (world ∷ worlds) worlds_apart (suc index) (suc other_index) runs_at_index runs_at_other =
-    ap suc (runs_at_one_index slot worlds worlds_apart.1 index other_index runs_at_index runs_at_other)
+runs_at_one_index slot (world ∷ worlds) (_, rest_apart) (suc index) (suc other_index) runs_at_index runs_at_other =
+    ap suc (runs_at_one_index slot worlds rest_apart index other_index runs_at_index runs_at_other)
 
 -- an enclave runs on at most one hart
 runs_on_one_hart : (slot hart other_hart : ℕ) (machine : MonitoredMachine) → Invariant machine

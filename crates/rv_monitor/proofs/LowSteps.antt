@@ -69,7 +69,8 @@ hart_in_list : (enclave : ℕ) (hart_states : List HartState)
 hart_in_list enclave [] some_runs = cc
 hart_in_list enclave (hart_state ∷ hart_states) some_runs = elim (cases_Bool (is_world_of enclave hart_state.world)) [
   | inl runs_enclave ↦ (zero, runs_enclave)
-  | inr other_runs ↦ let found_in_rest = hart_in_list enclave hart_states (rw other_runs at some_runs) in (suc found_in_rest.0, found_in_rest.1)
+  | inr other_runs ↦ let (index_in_rest, runs_enclave) = hart_in_list enclave hart_states (rw other_runs at some_runs) in
+      (suc index_in_rest, runs_enclave)
 ]
 
 -- an enclave with the state Running runs on some hart
@@ -77,8 +78,8 @@ pub runs_somewhere : (enclave : ℕ) (machine : MonitoredMachine) → Invariant 
     → runs machine.shared.table enclave ≡ true
     → RunsSomewhere enclave machine
 runs_somewhere enclave machine invariant running =
-    let found_hart = hart_in_list enclave machine.hart_states (sym (invariant.shared.running enclave) ∙ running) in
-    record { hart = found_hart.0; runs = found_hart.1 }
+    let (hart, runs_enclave) = hart_in_list enclave machine.hart_states (sym (invariant.shared.running enclave) ∙ running) in
+    record { hart = hart; runs = runs_enclave }
 
 -- ---- the bytes that a step reads
 
@@ -90,9 +91,10 @@ span_apart : (enclave : ℕ) (machine : MonitoredMachine) (hart : ℕ) (access :
     → has (region machine.shared.table enclave) byte ≡ false
 span_apart enclave machine hart access None invariant in_range not_running is_accessible_span byte byte_in_span = cc
 span_apart enclave machine hart access (Some span) invariant in_range not_running is_accessible_span byte byte_in_span =
-    let bounds = and_parts _ _ byte_in_span in
+    -- the byte is at or after the start of the span, and before its end
+    let (start_test, end_test) = and_parts _ _ byte_in_span in
     accessible_apart machine.shared.memory machine.shared.table (hart_state_of hart machine).world access span.addr (bytes_in span.len) enclave
-    invariant.shared.valid not_running is_accessible_span byte (leb-true _ _ bounds.0) (ltb-true _ _ bounds.1)
+    invariant.shared.valid not_running is_accessible_span byte (leb-true _ _ start_test) (ltb-true _ _ end_test)
 
 -- a low step reads no byte in the region of the enclave
 pub reads_apart : (enclave hart : ℕ) (machine : MonitoredMachine) → Invariant machine
@@ -223,6 +225,7 @@ module _ (enclave hart : ℕ) (one other : MonitoredMachine) (invariant_one : In
   low_while_running =
       let after_first = (step_of hart one).state in
       let hart_states = mixed_step.hart_states in
+      let (same_record, still_live) = record_unchanged in
       let may_differ_by : Option SlotInfo → ℕ → Bool = λ maybe_info byte.
       has (region_of maybe_info) byte || (option_case maybe_info false (λ info. is_running info.state) && has (window_of maybe_info) byte) in (
         first_step.outcome ∙ mixed_step.outcome,
@@ -244,11 +247,11 @@ module _ (enclave hart : ℕ) (one other : MonitoredMachine) (invariant_one : In
             -- each byte is unchanged in both memories, or has the same new value in both
             bytes = λ index not_hidden. elim (mixed_step.shared.changes index) [
               | inr bytes_equal ↦ related_after.memory.bytes index not_hidden ∙ bytes_equal
-              | inl unchanged ↦
+              | inl (mixed_unchanged, other_unchanged) ↦
                   let before =
-                  ap (λ (maybe_info : Option SlotInfo). may_differ_by maybe_info (ram_base + index)) (sym record_unchanged.0) ∙ not_hidden in
-                  related_after.memory.bytes index not_hidden ∙ unchanged.0
-                  ∙ related.memory.bytes index before ∙ sym unchanged.1
+                  ap (λ (maybe_info : Option SlotInfo). may_differ_by maybe_info (ram_base + index)) (sym same_record) ∙ not_hidden in
+                  related_after.memory.bytes index not_hidden ∙ mixed_unchanged
+                  ∙ related.memory.bytes index before ∙ sym other_unchanged
             ];
           };
           -- the saved contexts after the step are equal in the mixed and the second machine
@@ -258,7 +261,7 @@ module _ (enclave hart : ℕ) (one other : MonitoredMachine) (invariant_one : In
                 λ slot distinct. related_after.contexts.others slot distinct
                 ∙ ap (λ (contexts : Contexts). context_at contexts slot) mixed_step.shared.contexts;
           };
-          gone = λ not_live. absurd (both_ways _ not_live record_unchanged.1);
+          gone = λ not_live. absurd (both_ways _ not_live still_live);
         },
       )
 

@@ -225,12 +225,12 @@ module _ (hart : ℕ) (machine : MonitoredMachine) (invariant : Invariant machin
       → handled_cause after_trap machine.shared trap trap.cause ≡ returned_to_caller after_trap shared a0_value a1_value
       → Returns hart machine (step_of hart machine) trap shared a0_value a1_value
   returns shared a0_value a1_value handled_is =
-      let view_answers =
+      let (view_state_is, view_entered_is) =
       subst (StepAnswers view_before (hart_view_invariant hart machine invariant trapping.has) trap shared a0_value a1_value)
       (sym (trapped_step view_before trap trapping.trapped))
       (handler_answer_is_step_answer view_before (hart_view_invariant hart machine invariant trapping.has) trap shared a0_value a1_value
       (step (bare_machine view_before)).outcome handled_is) in
-      (trapping.state ∙ ap (programmed_by hart machine) view_answers.0, ap (λ (outcome : Outcome). outcome.entered) trapping.outcome ∙ view_answers.1)
+      (trapping.state ∙ ap (programmed_by hart machine) view_state_is, ap (λ (outcome : Outcome). outcome.entered) trapping.outcome ∙ view_entered_is)
 
   -- ---- entry
 
@@ -337,9 +337,9 @@ module _ (hart : ℕ) (machine : MonitoredMachine) (slot : ℕ) (trap : Trap) (h
 pub interrupts_enclave : (hart : ℕ) (machine : MonitoredMachine) → Invariant machine
     → InterruptsEnclave hart machine (step_of hart machine)
 interrupts_enclave hart machine invariant slot host trap interrupt runs host_is_saved traps cause_is =
-    let left = leave_law hart machine invariant slot host trap runs host_is_saved traps
+    let (left_machine_is, entered_none) = leave_law hart machine invariant slot host trap runs host_is_saved traps
     (world_is_host _ ((exits_law hart machine invariant slot runs).exits trap traps ∙ ap (causes_exit (hart_state_of hart machine)) cause_is)) in
-    (left.0 ∙ machines_after_interrupt_equal hart machine slot trap host interrupt cause_is, left.1)
+    (left_machine_is ∙ machines_after_interrupt_equal hart machine slot trap host interrupt cause_is, entered_none)
 
 -- proves the result of each call by its number and its status
 pub answers_calls : (hart : ℕ) (machine : MonitoredMachine) → Invariant machine
@@ -391,15 +391,15 @@ answers_calls hart machine invariant trap traps by_ecall =
           (handler_performs Resume is_call status_is_0) host traps;
       -- the number in a6 decides between stop and exit
       stops = λ slot host runs host_is_saved is_call.
-          let left = leaves_machine slot host Stop runs host_is_saved is_call refl in
+          let (left_machine_is, entered_none) = leaves_machine slot host Stop runs host_is_saved is_call refl in
           let a6_test =
           requests_stop-a6 slot (register before.hart.regs 17) (register before.hart.regs 16) (numbers_of_call slot Stop runs is_call) in
-          (left.0 ∙ machines_after_stop_equal hart machine slot trap host by_ecall a6_test, left.1);
+          (left_machine_is ∙ machines_after_stop_equal hart machine slot trap host by_ecall a6_test, entered_none);
       exits = λ slot host runs host_is_saved is_call.
-          let left = leaves_machine slot host Exit runs host_is_saved is_call refl in
+          let (left_machine_is, entered_none) = leaves_machine slot host Exit runs host_is_saved is_call refl in
           let a6_test =
           requests_exit-a6 slot (register before.hart.regs 17) (register before.hart.regs 16) (numbers_of_call slot Exit runs is_call) in
-          (left.0 ∙ machines_after_exit_equal hart machine slot trap host by_ecall a6_test, left.1);
+          (left_machine_is ∙ machines_after_exit_equal hart machine slot trap host by_ecall a6_test, entered_none);
     }
 
 -- proves that each call succeeds under its conditions in numbers
@@ -418,12 +418,13 @@ calls_succeed hart machine invariant trap traps by_ecall =
     record {
       -- the conditions of each call imply that the monitor accepts the call, which then has the result of an accepted call
       create = λ slot host is_request conditions.
-          let accepted_create = accepted_calls.create slot is_request conditions in
-          let accepted = accepted_of_world Host Create host accepted_create.0 in
+          -- the monitor accepts the create, and the new enclave gets this slot
+          let (is_accepted, new_slot_is) = accepted_calls.create slot is_request conditions in
+          let accepted = accepted_of_world Host Create host is_accepted in
           subst
           (λ (maybe_number : Option ℕ). Returns hart machine (step_of hart machine) trap (shared_with_new machine.shared regs) 0
           (option_case maybe_number slot_count (λ new_slot. new_slot)))
-          accepted_create.1 (call_results.creates accepted.requested accepted.status);
+          new_slot_is (call_results.creates accepted.requested accepted.status);
       destroy = λ host is_request conditions.
           let accepted = accepted_of_world Host Destroy host (accepted_calls.destroy is_request conditions) in
           call_results.destroys accepted.requested accepted.status;

@@ -32,18 +32,19 @@ apart_in_front : (worlds : List World) (index : ℕ) (world : World) → index <
     → AreApart (world ∷ without worlds index)
 apart_in_front [] index world in_range worlds_apart = absurd (omega (arith, in_range))
 apart_in_front (first ∷ rest) zero world in_range worlds_apart = worlds_apart
-apart_in_front (first ∷ rest) (suc index) world in_range worlds_apart =
+apart_in_front (first ∷ rest) (suc index) world in_range (first_apart, tail_apart) =
     let in_tail : index < length rest = omega (arith, in_range) in
-    let rest_apart = apart_in_front rest index world in_tail worlds_apart.1 in
+    let (world_apart_from_rest, rest_apart) = apart_in_front rest index world in_tail tail_apart in
+    -- no other world runs an enclave that the first world runs
     let prefix_facts : (slot : ℕ) → is_world_of slot first ≡ true
     → (is_world_of slot world ≡ false) × (list_any (is_world_of slot) (without rest index) ≡ false) =
-    λ slot first_runs. or_parts _ _ (sym (any_with_world_in_front (is_world_of slot) rest index world in_tail) ∙ worlds_apart.0 slot first_runs) in (
+    λ slot first_runs. or_parts _ _ (sym (any_with_world_in_front (is_world_of slot) rest index world in_tail) ∙ first_apart slot first_runs) in (
       λ slot first_runs. elim (cases_Bool (is_world_of slot first)) [
         -- two worlds that are apart do not run the same enclave
-        | inl runs_enclave ↦ absurd (both_ways _ (prefix_facts slot runs_enclave).0 first_runs)
-        | inr world_runs_other ↦ or_from (is_world_of slot first) _ world_runs_other (rest_apart.0 slot first_runs)
+        | inl runs_enclave ↦ let (world_runs_other, _) = prefix_facts slot runs_enclave in absurd (both_ways _ world_runs_other first_runs)
+        | inr world_runs_other ↦ or_from (is_world_of slot first) _ world_runs_other (world_apart_from_rest slot first_runs)
       ],
-      (λ slot first_runs. (prefix_facts slot first_runs).1, rest_apart.1),
+      ((λ slot first_runs. let (_, rest_runs_other) = prefix_facts slot first_runs in rest_runs_other), rest_apart),
     )
 
 -- worlds that are apart stay apart if the first world moves to the index
@@ -52,15 +53,18 @@ apart_moved_back : (worlds : List World) (index : ℕ) (world : World) → index
     → AreApart (slice_set worlds index world)
 apart_moved_back [] index world in_range worlds_apart = absurd (omega (arith, in_range))
 apart_moved_back (first ∷ rest) zero world in_range worlds_apart = worlds_apart
-apart_moved_back (first ∷ rest) (suc index) world in_range worlds_apart =
-    let in_tail : index < length rest = omega (arith, in_range) in (
+apart_moved_back (first ∷ rest) (suc index) world in_range (world_apart, others_apart) =
+    let in_tail : index < length rest = omega (arith, in_range) in
+    let (first_apart, rest_apart) = others_apart in (
       λ slot first_runs. any_with_world_in_front (is_world_of slot) rest index world in_tail
           ∙ elim (cases_Bool (is_world_of slot world)) [
             -- two worlds that are apart do not run the same enclave
-            | inl runs_enclave ↦ absurd (both_ways _ (or_parts _ _ (worlds_apart.0 slot runs_enclave)).0 first_runs)
-            | inr world_runs_other ↦ or_from (is_world_of slot world) _ world_runs_other (worlds_apart.1.0 slot first_runs)
+            | inl runs_enclave ↦ let (first_runs_other, _) = or_parts _ _ (world_apart slot runs_enclave) in
+                absurd (both_ways _ first_runs_other first_runs)
+            | inr world_runs_other ↦ or_from (is_world_of slot world) _ world_runs_other (first_apart slot first_runs)
           ],
-      apart_moved_back rest index world in_tail (λ slot first_runs. (or_parts _ _ (worlds_apart.0 slot first_runs)).1, worlds_apart.1.1),
+      apart_moved_back rest index world in_tail
+          ((λ slot world_runs. let (_, rest_runs_other) = or_parts _ _ (world_apart slot world_runs) in rest_runs_other), rest_apart),
     )
 
 -- the shared invariant for a list of worlds holds for the list with the world at the index moved to the front

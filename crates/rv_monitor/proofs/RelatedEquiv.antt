@@ -57,7 +57,9 @@ module _ (enclave : ℕ) (one other : MonitoredMachine) where
       size = equiv.shared.memory.size;
       -- a byte that may not differ is outside the region of `enclave`
       bytes =
-          λ index not_hidden. equiv.shared.memory.bytes index (or_parts (has (region one.shared.table enclave) (ram_base + index)) _ not_hidden).0;
+          λ index not_hidden.
+          let (outside_region, _) = or_parts (has (region one.shared.table enclave) (ram_base + index)) _ not_hidden in
+          equiv.shared.memory.bytes index outside_region;
     };
     contexts = equiv.shared.contexts;
     gone = equiv.shared.gone;

@@ -226,13 +226,13 @@ equiv_after_exit enclave hart one other trap (Some host) host_context_is invaria
     traps other_traps one_exits other_exits =
     let in_range = running_hart_in_range enclave hart one runs_enclave in
     let world = world_is_enclave enclave (hart_state_of hart one).world runs_enclave in
-    let first_exit = (leave_law hart one invariant_one enclave host trap world host_context_is traps one_exits).0 in
-    let second_exit =
-    (leave_law hart other invariant_other enclave host trap (sym (equiv.hart_states hart).world ∙ world)
-    (sym same_host.host ∙ host_context_is) other_traps other_exits).0 in
+    let (first_left_machine_is, _) = leave_law hart one invariant_one enclave host trap world host_context_is traps one_exits in
+    let (second_left_machine_is, _) =
+    leave_law hart other invariant_other enclave host trap (sym (equiv.hart_states hart).world ∙ world)
+    (sym same_host.host ∙ host_context_is) other_traps other_exits in
     let live = running_is_live enclave hart one invariant_one runs_enclave in
-    rw (first_exit, second_exit) (machines_equiv_after_exit enclave hart one other trap host invariant_one.shared.valid.count live equiv in_range
-    same_host same_handover)
+    rw (first_left_machine_is, second_left_machine_is)
+    (machines_equiv_after_exit enclave hart one other trap host invariant_one.shared.valid.count live equiv in_range same_host same_handover)
 
 -- an exit from both machines to the same host that hands over the same leaves the machines equivalent except `enclave`
 pub release : (enclave hart : ℕ) (one other : MonitoredMachine) (trap : Trap) → Invariant one → Invariant other

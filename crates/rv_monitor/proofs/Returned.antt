@@ -109,23 +109,23 @@ step_keeps hart stepping_hart machine enclave_runs enclave_runs_after = elim (ca
 pub first_runs : (hart : ℕ) (harts : List ℕ) (machine : MonitoredMachine) → RunsThrough hart harts machine
     → is_host (hart_state_of hart machine).world ≡ false
 first_runs hart [] machine runs_through = runs_through
-first_runs hart (stepping_hart ∷ harts) machine runs_through = runs_through.0
+first_runs hart (stepping_hart ∷ harts) machine (enclave_runs, _) = enclave_runs
 
 -- the saved context of the host on a hart does not change while the hart runs an enclave
 pub steps_keep : (hart : ℕ) (harts : List ℕ) (machine : MonitoredMachine) → RunsThrough hart harts machine
     → host_on hart (sched harts machine).state ≡ host_on hart machine
 steps_keep hart [] machine runs_through = refl
-steps_keep hart (stepping_hart ∷ harts) machine runs_through =
+steps_keep hart (stepping_hart ∷ harts) machine (enclave_runs, runs_through_rest) =
     let after = (step_of stepping_hart machine).state in
-    steps_keep hart harts after runs_through.1
-    ∙ step_keeps hart stepping_hart machine runs_through.0 (first_runs hart harts after runs_through.1)
+    steps_keep hart harts after runs_through_rest
+    ∙ step_keeps hart stepping_hart machine enclave_runs (first_runs hart harts after runs_through_rest)
 
 -- a hart that runs an enclave through a list of steps runs an enclave after the last step
 pub last_runs : (hart : ℕ) (harts : List ℕ) (machine : MonitoredMachine) → RunsThrough hart harts machine
     → is_host (hart_state_of hart (sched harts machine).state).world ≡ false
 last_runs hart [] machine runs_through = runs_through
-last_runs hart (stepping_hart ∷ harts) machine runs_through =
-    last_runs hart harts (step_of stepping_hart machine).state runs_through.1
+last_runs hart (stepping_hart ∷ harts) machine (_, runs_through_rest) =
+    last_runs hart harts (step_of stepping_hart machine).state runs_through_rest
 
 -- ---- from entry to exit
 

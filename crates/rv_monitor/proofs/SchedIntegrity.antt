@@ -56,16 +56,16 @@ untouched_itself slot machine invariant = record {
 first_live : (slot : ℕ) (harts : List ℕ) (machine : MonitoredMachine) → IsUndisturbed slot harts machine
     → is_live machine.shared.table slot ≡ true
 first_live slot [] machine undisturbed = undisturbed
-first_live slot (hart ∷ harts) machine undisturbed = undisturbed.0
+first_live slot (hart ∷ harts) machine (live, _, _, _) = live
 
 -- proves the integrity law for steps in any order, by induction on the list
 pub sched_integrity : SchedIntegrityLaw
 sched_integrity slot [] machine invariant undisturbed = untouched_itself slot machine invariant
-sched_integrity slot (hart ∷ harts) machine invariant undisturbed =
+sched_integrity slot (hart ∷ harts) machine invariant (live, not_running, not_entered, rest_undisturbed) =
     let after = (step_of hart machine).state in
     untouched_twice slot machine after (sched harts after).state
-    (integrity hart machine invariant slot undisturbed.1 undisturbed.0 undisturbed.2 (first_live slot harts after undisturbed.3))
-    (sched_integrity slot harts after (invariant_law hart machine invariant) undisturbed.3)
+    (integrity hart machine invariant slot not_running live not_entered (first_live slot harts after rest_undisturbed))
+    (sched_integrity slot harts after (invariant_law hart machine invariant) rest_undisturbed)
 
 -- ---- a running enclave is neither entered nor ended by another hart
 
@@ -78,11 +78,13 @@ others_keep_running_law hart machine invariant slot slot_hart runs not_running =
     -- the worlds of two harts stay apart, so the step cannot enter an enclave that another hart runs
     (λ in_range.
     let after = monitored_step (hart_view hart machine) in
-    let sound = (invariant_of_others hart machine invariant in_range).0 in
+    let (sound, _) = invariant_of_others hart machine invariant in_range in
+    -- no other hart runs the enclave that the stepping hart runs after its step
+    let (stepping_world_is_apart, _) = sound.apart in
     let runs_on_other_hart = runs_among_others slot hart slot_hart machine in_range runs not_running in
     record {
       passes = entered_by slot after.outcome.entered
-          (λ enters_slot. both_ways _ (sound.apart.0 slot (is_entered slot (hart_view hart machine) enters_slot)) runs_on_other_hart);
+          (λ enters_slot. both_ways _ (stepping_world_is_apart slot (is_entered slot (hart_view hart machine) enters_slot)) runs_on_other_hart);
       live =
           live_if_running (slot_at after.state.shared.table slot)
           (sound.running slot ∙ or_right (is_world_of slot after.state.hart_state.world) _ runs_on_other_hart);
@@ -91,19 +93,19 @@ others_keep_running_law hart machine invariant slot slot_hart runs not_running =
 -- proves that steps of other harts leave a running enclave undisturbed
 pub running_law : RunningLaw
 running_law slot slot_hart [] machine invariant runs runs_on_none = running_is_live slot slot_hart machine invariant runs
-running_law slot slot_hart (hart ∷ harts) machine invariant runs runs_on_none =
+running_law slot slot_hart (hart ∷ harts) machine invariant runs (not_running, not_running_on_rest) =
     let after = (step_of hart machine).state in
     let live = running_is_live slot slot_hart machine invariant runs in
     -- the first step neither enters nor destroys the enclave, so the hart still runs the enclave
-    let continues = others_keep_running_law hart machine invariant slot slot_hart runs runs_on_none.0 in
-    let preserved = integrity hart machine invariant slot runs_on_none.0 live continues.passes continues.live in
+    let continues = others_keep_running_law hart machine invariant slot slot_hart runs not_running in
+    let preserved = integrity hart machine invariant slot not_running live continues.passes continues.live in
     let runs_after : runs_on slot slot_hart after ≡ true =
     ap (λ (hart_state : HartState). is_world_of slot hart_state.world) (preserved.hart_state slot_hart runs) ∙ runs in (
       live,
-      runs_on_none.0,
+      not_running,
       continues.passes,
       running_law slot slot_hart harts after (invariant_law hart machine invariant) runs_after
-          (still_runs_on_none slot hart harts machine runs_on_none.1 continues.passes),
+          (still_runs_on_none slot hart harts machine not_running_on_rest continues.passes),
     )
 
 -- ---- which bytes the steps change

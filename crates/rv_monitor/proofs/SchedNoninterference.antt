@@ -16,20 +16,20 @@ use Rattle.rv_monitor.proofs.TrapSteps.{step_cases, hart_state_after}
 pub sched_law : SchedLaw
 sched_law enclave [] one other invariant_one invariant_other equiv low_steps =
     record { outcomes = refl; state = equiv; low_steps = tt }
-sched_law enclave (hart ∷ harts) one other invariant_one invariant_other equiv low_steps =
+sched_law enclave (hart ∷ harts) one other invariant_one invariant_other equiv (not_running, rest_are_low) =
     -- the first step has equal outcomes, and leaves equivalent machines
-    let first_step = noninterference hart one invariant_one enclave other invariant_other equiv low_steps.0 in
+    let first_step = noninterference hart one invariant_one enclave other invariant_other equiv not_running in
     -- by induction, the remaining steps have equal outcomes, and leave equivalent machines
     let remaining =
     sched_law enclave harts (step_of hart one).state (step_of hart other).state (invariant_law hart one invariant_one)
     (invariant_law hart other invariant_other)
-    first_step.state low_steps.1 in
+    first_step.state rest_are_low in
     let prepend : Outcome → List Outcome → List Outcome = λ outcome outcomes. outcome ∷ outcomes in
     let hart_states = equiv.hart_states hart in
     record {
       outcomes = ap₂ prepend first_step.outcome remaining.outcomes;
       state = remaining.state;
-      low_steps = (sym (ap (is_world_of enclave) hart_states.world) ∙ low_steps.0, remaining.low_steps);
+      low_steps = (sym (ap (is_world_of enclave) hart_states.world) ∙ not_running, remaining.low_steps);
     }
 
 -- ---- the hart on which the enclave runs after a step
@@ -132,15 +132,15 @@ pub still_runs_on_none : (enclave hart : ℕ) (harts : List ℕ) (machine : Moni
     → enters enclave (step_of hart machine).outcome.entered ≡ false
     → RunsOnNone enclave harts (step_of hart machine).state
 still_runs_on_none enclave hart [] machine runs_on_none not_entered = tt
-still_runs_on_none enclave hart (other_hart ∷ harts) machine runs_on_none not_entered =
-    (entry_law enclave hart other_hart machine runs_on_none.0 not_entered, still_runs_on_none enclave hart harts machine runs_on_none.1 not_entered)
+still_runs_on_none enclave hart (other_hart ∷ harts) machine (not_running, not_running_on_rest) not_entered =
+    (entry_law enclave hart other_hart machine not_running not_entered, still_runs_on_none enclave hart harts machine not_running_on_rest not_entered)
 
 -- proves that steps of harts that do not run `enclave` are low steps, up to and including the first that enters `enclave`
 pub low_steps : LowStepsLaw
 low_steps enclave [] machine runs_on_none not_entered_before = tt
-low_steps enclave (hart ∷ []) machine runs_on_none not_entered_before = (runs_on_none.0, tt)
-low_steps enclave (hart ∷ next_hart ∷ harts) machine runs_on_none not_entered_before = (
-  runs_on_none.0,
+low_steps enclave (hart ∷ []) machine (not_running, _) not_entered_before = (not_running, tt)
+low_steps enclave (hart ∷ next_hart ∷ harts) machine (not_running, not_running_on_rest) (not_entered, not_entered_by_rest) = (
+  not_running,
   low_steps enclave (next_hart ∷ harts) (step_of hart machine).state
-      (still_runs_on_none enclave hart (next_hart ∷ harts) machine runs_on_none.1 not_entered_before.0) not_entered_before.1,
+      (still_runs_on_none enclave hart (next_hart ∷ harts) machine not_running_on_rest not_entered) not_entered_by_rest,
 )

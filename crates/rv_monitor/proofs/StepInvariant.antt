@@ -47,8 +47,8 @@ unlocked_at_trap : (table : Slots) (hart_state : HartState) (maybe_trap : Option
     → HartInvariant table hart_state
     → IfSome maybe_trap (λ some_trap. (hart ≡ hart_after hart_state.hart some_trap) × (memory_after ≡ memory)) → IsUnlocked hart.csrs.pmp
 unlocked_at_trap table hart_state None hart memory memory_after trap trapped hart_invariant keeps = cc
-unlocked_at_trap table hart_state (Some some_trap) hart memory memory_after trap trapped hart_invariant keeps =
-    subst (λ (hart : Hart). IsUnlocked hart.csrs.pmp) (sym keeps.0) (hart_state_unlocked table hart_state hart_invariant)
+unlocked_at_trap table hart_state (Some some_trap) hart memory memory_after trap trapped hart_invariant (hart_at_trap_is, memory_unchanged) =
+    subst (λ (hart : Hart). IsUnlocked hart.csrs.pmp) (sym hart_at_trap_is) (hart_state_unlocked table hart_state hart_invariant)
 
 -- no PMP entry is locked after a bare step that traps
 pub unlocked_after : (hart_state : HartState) (shared : Shared) (after : Stepped) (trap : Trap)
@@ -64,7 +64,7 @@ unlocked_after hart_state shared after trap trapped hart_invariant keeps =
 stored_size : (bytes memory memory_after : List ℕ) (span : Option Span) → Stores bytes memory memory_after span
     → length memory ≡ length memory_after
 stored_size bytes memory memory_after None stores = sym (ap length stores)
-stored_size bytes memory memory_after (Some span) stores = sym (length-write memory span.addr bytes memory_after stores.1)
+stored_size bytes memory memory_after (Some span) (bytes_fill_span, write_is) = sym (length-write memory span.addr bytes memory_after write_is)
 
 -- a memory has the same bytes as itself in each span
 same_in_span : (memory : List ℕ) (span : Option Span) → SameIn memory memory span
@@ -187,20 +187,22 @@ module _ (other_worlds : List World) (hart_state : HartState) (shared : Shared)
       (record shared { memory = after.state.memory }))
   kept_without_trap after is_confined stays_below mprv =
       let hart = after.state.hart in
-      let same_machine_parts = same_parts hart.csrs hart_state.hart.csrs stays_below.0 in
+      let (machine_parts_unchanged, below_m) = stays_below in
+      let (pmp_unchanged, mie_unchanged, mstatus_mie_unchanged, tvm_unchanged, tw_unchanged, tsr_unchanged) =
+      same_parts hart.csrs hart_state.hart.csrs machine_parts_unchanged in
       let layout = hart_invariant.layout in (
         -- the memory keeps its size
         sound_by_size shared (hart_state.world ∷ other_worlds) after.state.memory shared_invariant (step_size (bare_machine view) after is_confined),
         -- the hart keeps its PMP entries, mie and the fixed bits of mstatus
         invariant_with_hart shared.table hart_state hart hart_invariant.host (record {
-          entries = same_machine_parts.0 ∙ layout.entries;
-          mie = same_machine_parts.1 ∙ layout.mie;
-          mode = stays_below.1;
-          mstatus_mie = same_machine_parts.2 ∙ layout.mstatus_mie;
+          entries = pmp_unchanged ∙ layout.entries;
+          mie = mie_unchanged ∙ layout.mie;
+          mode = below_m;
+          mstatus_mie = mstatus_mie_unchanged ∙ layout.mstatus_mie;
           mprv = mprv;
-          tvm = same_machine_parts.3 ∙ layout.tvm;
-          tw = same_machine_parts.4 ∙ layout.tw;
-          tsr = same_machine_parts.5 ∙ layout.tsr;
+          tvm = tvm_unchanged ∙ layout.tvm;
+          tw = tw_unchanged ∙ layout.tw;
+          tsr = tsr_unchanged ∙ layout.tsr;
         }),
       )
 
@@ -237,8 +239,9 @@ module _ (other_worlds : List World) (hart_state : HartState) (shared : Shared)
       let parts_and_mode_kept =
       without_trap after.outcome.trap (StaysBelow hart_state.hart after.state.hart) no_trap
       (keeps_machine_parts (bare_machine view) layout.mode layout.mprv) in
+      let (_, below_m) = parts_and_mode_kept in
       kept_without_trap after (confined (bare_machine view)) parts_and_mode_kept
-      (keeps_mprv_clear (bare_machine view) (λ some_bit. layout.mprv) parts_and_mode_kept.1))
+      (keeps_mprv_clear (bare_machine view) (λ some_bit. layout.mprv) below_m))
       -- with a trap, the trap handler gives the invariant again
       (λ trap traps.
       let hart_state_at_trap = hart_state_after hart_state trap in

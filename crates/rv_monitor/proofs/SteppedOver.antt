@@ -42,10 +42,10 @@ writes_change_alike memory other_memory address bytes same_length position =
       | inl is_inside_memory ↦
           let first_write = write-some memory address bytes is_inside_memory in
           let second_write = write-some other_memory address bytes (rw (← same_length) is_inside_memory) in
-          let bounds = inside-bounds memory address (length bytes) is_inside_memory in
+          let (starts_in_ram, ends_in_ram) = inside-bounds memory address (length bytes) is_inside_memory in
           let start = address - ram_base in
-          let fits : start + length bytes ≤ length memory = omega (arith, bounds.0, bounds.1) in
-          let fits_other : start + length bytes ≤ length other_memory = omega (arith, bounds.0, bounds.1, same_length) in
+          let fits : start + length bytes ≤ length memory = omega (arith, starts_in_ram, ends_in_ram) in
+          let fits_other : start + length bytes ≤ length other_memory = omega (arith, starts_in_ram, ends_in_ram, same_length) in
           rw (first_write, second_write) (elim (cases_lt position start) [
             -- an index before the written bytes keeps its byte in both memories
             | inl before_start ↦
@@ -76,9 +76,10 @@ alike_twice memory other_memory middle other_middle after other_after first_chan
   -- the second change gives the byte the same value in both memories
   | inr bytes_equal ↦ inr bytes_equal
   -- the second change leaves the byte unchanged in both memories
-  | inl unchanged_later ↦ elim (first_change index) [
-    | inl unchanged_first ↦ inl (unchanged_later.0 ∙ unchanged_first.0, unchanged_later.1 ∙ unchanged_first.1)
-    | inr bytes_equal ↦ inr (unchanged_later.0 ∙ bytes_equal ∙ sym unchanged_later.1)
+  | inl (second_keeps, second_keeps_other) ↦ elim (first_change index) [
+    | inl (first_keeps, first_keeps_other) ↦ inl (second_keeps ∙ first_keeps, second_keeps_other ∙ first_keeps_other)
+    -- the first change gave the byte the same value in both memories
+    | inr bytes_equal ↦ inr (second_keeps ∙ bytes_equal ∙ sym second_keeps_other)
   ]
 ]
 
@@ -91,7 +92,8 @@ equal_after hidden memory other_memory after other_after equal_outside changes s
   size = same_length;
   bytes = λ index not_hidden. elim (changes index) [
     -- an unchanged byte was equal before the changes
-    | inl unchanged_both ↦ unchanged_both.0 ∙ equal_outside.bytes index not_hidden ∙ sym unchanged_both.1
+    | inl (unchanged_in_one, unchanged_in_other) ↦ unchanged_in_one ∙ equal_outside.bytes index not_hidden ∙ sym unchanged_in_other
+    -- a changed byte has the same new value in both memories
     | inr bytes_equal ↦ bytes_equal
   ];
 }
@@ -104,17 +106,17 @@ stored_alike : (stored : Option Span) (bytes memory other_memory after other_aft
     → ChangeAlike memory other_memory after other_after
 stored_alike None bytes memory other_memory after other_after same_length stores stores_other =
     rw (stores, stores_other) (unchanged memory other_memory)
-stored_alike (Some span) bytes memory other_memory after other_after same_length stores stores_other =
-    subst (λ (maybe_bytes : Option (List ℕ)). ChangeAlike memory other_memory (or_unchanged memory maybe_bytes) other_after) stores.1
+stored_alike (Some span) bytes memory other_memory after other_after same_length (_, write_is) (_, other_write_is) =
+    subst (λ (maybe_bytes : Option (List ℕ)). ChangeAlike memory other_memory (or_unchanged memory maybe_bytes) other_after) write_is
     (subst (λ (maybe_bytes : Option (List ℕ)). ChangeAlike memory other_memory (or_unchanged memory (write memory span.addr bytes))
-    (or_unchanged other_memory maybe_bytes)) stores_other.1
+    (or_unchanged other_memory maybe_bytes)) other_write_is
     (writes_change_alike memory other_memory span.addr bytes same_length))
 
 -- a store does not change the size of the memory
 stored_size : (stored : Option Span) (bytes memory after : List ℕ) → Stores bytes memory after stored
     → length after ≡ length memory
 stored_size None bytes memory after stores = ap (λ (some_memory : List ℕ). length some_memory) stores
-stored_size (Some span) bytes memory after stores = length-write memory span.addr bytes after stores.1
+stored_size (Some span) bytes memory after (_, write_is) = length-write memory span.addr bytes after write_is
 
 -- ---- the trap handler
 
@@ -193,7 +195,7 @@ module _ (hidden : ℕ → Bool) (hart_state : HartState) (trap : Trap) (table :
       → bytes_of_block memory new.region ≡ bytes_of_block other_memory new.region
   region_bytes_equal new host_runs no_refusal =
       let region_is_inside = valid_inside memory new.region no_refusal.well_formed in
-      let region_above_base = (inside-bounds memory new.region.base new.region.size region_is_inside).0 in
+      let (region_above_base, _) = inside-bounds memory new.region.base new.region.size region_is_inside in
       ap (λ (maybe_bytes : Option (List ℕ)). option_case maybe_bytes [] (λ bytes. bytes))
       (same_read hidden memory other_memory new.region.base new.region.size equal_outside region_is_inside (λ byte at_or_after_base before_end.
       let address_is : ram_base + (byte - ram_base) ≡ byte = omega (arith, region_above_base, at_or_after_base) in
@@ -237,8 +239,8 @@ module _ (hidden : ℕ → Bool) (hart_state : HartState) (trap : Trap) (table :
         answers = λ status result. caller_over first_shared second_shared status result same_shared;
         -- only the host creates, and the region of the new enclave has no hidden byte
         creates = λ is_request no_refusal.
-            let host =
-            offered_host hart_state.world (requested-is_offered hart_state.world hart_state.hart.regs Create is_request.asked).1 in
+            let (_, create_is_offered) = requested-is_offered hart_state.world hart_state.hart.regs Create is_request.asked in
+            let host = offered_host hart_state.world create_is_offered in
             caller_over _ _ 0 (new_slot table)
             (created_over (create_args_of hart_state.hart.regs) (region_bytes_equal (create_args_of hart_state.hart.regs) host no_refusal));
         -- a destroy and a measure write the same bytes to both memories
@@ -345,8 +347,9 @@ module _ (hidden : ℕ → Bool) (hart_state : HartState) (shared : Shared) (oth
       → SameIn before.memory other_memory touched
   accessed_bytes_equal mode access None may_touch not_hidden = tt
   accessed_bytes_equal mode access (Some span) may_touch not_hidden =
-      let span_above_base = (inside-bounds shared.memory span.addr (bytes_in span.len) may_touch.0).0 in
-      same_read hidden before.memory other_memory span.addr (bytes_in span.len) equal_outside may_touch.0 (λ byte at_or_after_base before_end.
+      let (inside_memory, _) = may_touch in
+      let (span_above_base, _) = inside-bounds shared.memory span.addr (bytes_in span.len) inside_memory in
+      same_read hidden before.memory other_memory span.addr (bytes_in span.len) equal_outside inside_memory (λ byte at_or_after_base before_end.
       let address_is : ram_base + (byte - ram_base) ≡ byte = omega (arith, span_above_base, at_or_after_base) in
       let byte_in_span : in_span (Some span) byte ≡ true =
       and_from _ _ (le-leb span.addr byte at_or_after_base) (lt-ltb byte (span.addr + bytes_in span.len) before_end) in

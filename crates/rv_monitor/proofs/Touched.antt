@@ -48,8 +48,8 @@ module _ (view : HartView) (view_invariant : HartViewInvariant view) where
       → MayTouch (bare_machine view) mode access maybe_span
       → SpanIsAccessible view access maybe_span
   accessible mode access None mode_below_m may_touch = tt
-  accessible mode access (Some span) mode_below_m may_touch =
-      sym (access_control_law view mode access span.addr span.len view_invariant (below_M mode mode_below_m) may_touch.0) ∙ may_touch.1
+  accessible mode access (Some span) mode_below_m (inside_memory, permitted) =
+      sym (access_control_law view mode access span.addr span.len view_invariant (below_M mode mode_below_m) inside_memory) ∙ permitted
 
   -- each access of the bare step is accessible to the running world
   touches_accessible : IsTouchedAccessible view (step (bare_machine view)).outcome

@@ -35,10 +35,8 @@ by-end : (view : HartView) (Claim : HartViewStepped → Type 0) (maybe_trap : Op
     → ((trap : Trap) → maybe_trap ≡ Some trap → Claim (returned outcome (handled (hart_state_after view.hart_state trap) view.shared trap)))
     → Claim (option_case maybe_trap (unhandled outcome hart_state shared) (λ trap. returned outcome (handled hart_state shared trap))))
 by-end view Claim None outcome hart memory keeps claim_without_trap claim_with_trap = claim_without_trap refl
-by-end view Claim (Some trap) outcome hart memory keeps claim_without_trap claim_with_trap =
-    let hart_is = keeps.0 in
-    let memory_is = keeps.1 in
-    rw (hart_is, memory_is) (claim_with_trap trap refl)
+by-end view Claim (Some trap) outcome hart memory (hart_at_trap_is, memory_unchanged) claim_without_trap claim_with_trap =
+    rw (hart_at_trap_is, memory_unchanged) (claim_with_trap trap refl)
 
 -- Case analysis of a step of a view. A claim holds for the step if the claim holds for a step without a trap, and for a step with each trap.
 pub step_cases : (view : HartView) (Claim : HartViewStepped → Type 0)

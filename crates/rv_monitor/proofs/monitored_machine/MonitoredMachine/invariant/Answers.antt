@@ -6,4 +6,5 @@ use Rattle.rv_monitor.proofs.monitored_machine.MonitoredMachine.invariant.Goals 
 -- `MonitoredMachine::invariant` meets clause `first` of its contract
 pub returns-clause-first : goal.returns-clause-first
 returns-clause-first c =
-    subst (λ (machine : MonitoredMachine). 0 < count_of machine) c.self.view_is (subst (λ (n : ℕ). 0 < n) (sym c.counts.ensures) c.self.invariant.1)
+    let (_, some_harts, _) = c.self.invariant in
+    subst (λ (machine : MonitoredMachine). 0 < count_of machine) c.self.view_is (subst (λ (count : ℕ). 0 < count) (sym c.counts.ensures) some_harts)

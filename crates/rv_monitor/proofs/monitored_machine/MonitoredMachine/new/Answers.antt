@@ -20,4 +20,4 @@ invariant_of-result c = start_full c.args.ram c.args.entry c.args.harts _ _ _ (r
 
 -- `MonitoredMachine::new` meets clause `invariant` of its contract
 pub returns-clause-invariant : goal.returns-clause-invariant
-returns-clause-invariant c = (invariant_of-result c).0
+returns-clause-invariant c = let (full_invariant, _, _) = invariant_of-result c in full_invariant

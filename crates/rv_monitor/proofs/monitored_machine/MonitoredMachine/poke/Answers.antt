@@ -8,13 +8,16 @@ use Rattle.rv_monitor.proofs.monitored_machine.MonitoredMachine.poke.Goals as go
 pub invariant_of-self : goal.invariant_of-self
 invariant_of-self c =
     let inside = c.self.inside in
-    let held_in = c.self.invariant in
+    let (full_invariant, some_harts, at_most_max_harts) = c.self.invariant in
     let before = machine_of_parts inside.by_hart inside.harts inside.shared in (
-      record { monitor = invariant_by_size before c.poke.new.self held_in.0.monitor (sym c.poke.ensures.only.size); legal = held_in.0.legal },
-      held_in.1,
-      held_in.2,
+      record {
+        monitor = invariant_by_size before c.poke.new.self full_invariant.monitor (sym c.poke.ensures.only.size);
+        legal = full_invariant.legal;
+      },
+      some_harts,
+      at_most_max_harts,
     )
 
 -- `MonitoredMachine::poke` meets clause `invariant` of its contract (`FullInvariant`)
 pub returns-clause-invariant : goal.returns-clause-invariant
-returns-clause-invariant c = (invariant_of-self c).0
+returns-clause-invariant c = let (full_invariant, _, _) = invariant_of-self c in full_invariant

@@ -7,11 +7,11 @@ use Rattle.rv_monitor.proofs.monitored_machine.MonitoredMachine.run_fast.Goals a
 -- `self` has the invariant of its type when `MonitoredMachine::run_fast` returns
 pub invariant_of-self : goal.invariant_of-self
 invariant_of-self c =
-    let held_in = c.self.invariant in (c.run_fast_in.ensures.kept, held_in.1, held_in.2)
+    let (_, some_harts, at_most_max_harts) = c.self.invariant in (c.run_fast_in.ensures.kept, some_harts, at_most_max_harts)
 
 -- `MonitoredMachine::run_fast` meets clause `invariant` of its contract (`FullInvariant`)
 pub returns-clause-invariant : goal.returns-clause-invariant
-returns-clause-invariant c = (invariant_of-self c).0
+returns-clause-invariant c = let (full_invariant, _, _) = invariant_of-self c in full_invariant
 
 -- `MonitoredMachine::run_fast` meets clause `harts` of its contract
 pub returns-clause-harts : goal.returns-clause-harts

@@ -20,4 +20,4 @@ invariant_of-self c =
 
 -- `MonitoredMachine::set_timer` meets clause `invariant` of its contract (`FullInvariant`)
 pub returns-clause-invariant : goal.returns-clause-invariant
-returns-clause-invariant c = (invariant_of-self c).0
+returns-clause-invariant c = let (full_invariant, _, _) = invariant_of-self c in full_invariant
