@@ -44,10 +44,10 @@ use Rattle.rv_hart.specs.GuestView.{below_m_hart}
 -- ---- no step changes the size of memory
 
 -- the trap handler does not change the size of the memory
-handled_size : (hart_state : HartState) (shared : Shared) (trap : Trap)
+handler_keeps_size : (hart_state : HartState) (shared : Shared) (trap : Trap)
     → length (handled hart_state shared trap).shared.memory ≡ length shared.memory
 unfolding created destroyed measured entered_slot left
-handled_size hart_state shared trap =
+handler_keeps_size hart_state shared trap =
     -- only a destroy and a measure write to memory, and a write keeps the size
     handler_cases hart_state trap shared (λ result. length result.shared.memory ≡ length shared.memory) (record {
       answers = λ status result. refl;
@@ -67,7 +67,7 @@ same_size hart machine =
     let view : HartView = hart_view hart machine in
     step_cases view (λ after. length after.state.shared.memory ≡ length view.shared.memory)
     (λ no_trap. sym (step_size (bare_machine view) (step (bare_machine view)) (confined (bare_machine view))))
-    (λ trap trapped. handled_size (hart_state_after view.hart_state trap) view.shared trap))
+    (λ trap trapped. handler_keeps_size (hart_state_after view.hart_state trap) view.shared trap))
 
 -- ---- create
 
@@ -144,10 +144,10 @@ module _ (slot : ℕ) (shared : Shared) (valid : IsValid shared.memory shared.ta
       ∙ identity_if_live (slot_at shared.table slot)) live_after
 
   -- if the trap handler makes the slot live, then the enclave in the slot is in the state after create
-  handled_created : (hart_state : HartState) (trap : Trap) → AsCreatedIfLive (handled hart_state shared trap)
+  handler_gives_as_created : (hart_state : HartState) (trap : Trap) → AsCreatedIfLive (handled hart_state shared trap)
   unfolding measured entered_slot left
   -- only a create makes a free slot live
-  handled_created hart_state trap = handler_cases hart_state trap shared AsCreatedIfLive (record {
+  handler_gives_as_created hart_state trap = handler_cases hart_state trap shared AsCreatedIfLive (record {
     answers = λ status result live. slot_still_free shared refl live;
     creates = λ requests no_refusal live. create_gives_as_created (create_args_of hart_state.hart.regs) no_refusal live;
     destroys = λ requests slot_accepted live. destroy_makes_no_slot_live (a0 hart_state) slot_accepted live;
@@ -179,7 +179,7 @@ equal_block_bytes memory other_memory block same_length inside bytes_equal =
       bytes =
           λ index not_hidden. equal_bytes_at_index memory other_memory index (sym same_length)
           (bytes_equal (ram_base + index) (not-false (has block (ram_base + index)) not_hidden));
-    }) inside (λ byte from_base are_high_steps. not_outside_block block byte from_base are_high_steps))
+    }) inside (λ byte from_base before_end. not_outside_block block byte from_base before_end))
 
 -- the enclave in the slot is in the state after create
 module _ (slot : ℕ) (machine : MonitoredMachine) (invariant : Invariant machine) (as_created : IsAsCreated slot machine.shared) where
@@ -213,7 +213,7 @@ module _ (slot : ℕ) (machine : MonitoredMachine) (invariant : Invariant machin
       -- by integrity, the step preserves the record, the region and the saved context of the enclave
       let preserved =
       (integrity hart machine invariant slot (runs_nowhere hart) live_before not_entered live_after).preserved in
-      let bytes =
+      let region_bytes_equal =
       equal_block_bytes machine.shared.memory (step_of hart machine).state.shared.memory as_created.info.region (same_size hart machine)
       (valid_inside machine.shared.memory as_created.info.region record_is_valid.region)
       (λ byte in_region. preserved.bytes byte (ap (λ (maybe_info : Option SlotInfo). has (region_of maybe_info) byte) as_created.is ∙ in_region)) in
@@ -225,7 +225,7 @@ module _ (slot : ℕ) (machine : MonitoredMachine) (invariant : Invariant machin
         -- the measurement is still that of the record and of the region, whose bytes are unchanged
         measurement =
             as_created.measurement
-            ∙ same_measurement machine.shared.memory (step_of hart machine).state.shared.memory (args_of as_created.info) bytes;
+            ∙ same_measurement machine.shared.memory (step_of hart machine).state.shared.memory (args_of as_created.info) region_bytes_equal;
       }
 
 -- proves that each enclave that a step creates is in the state after create, and stays in this state until a step enters or destroys the enclave
@@ -238,7 +238,7 @@ as_created_law hart machine invariant = record {
       let view : HartView = hart_view hart machine in
       step_cases view (λ after. is_live after.state.shared.table slot ≡ true → IsAsCreated slot after.state.shared)
       (λ no_trap live_after. absurd (both_ways _ slot_is_free live_after))
-      (λ trap trapped. handled_created slot view.shared invariant.shared.valid invariant.shared.contexts.count slot_is_free
+      (λ trap trapped. handler_gives_as_created slot view.shared invariant.shared.valid invariant.shared.contexts.count slot_is_free
       (hart_state_after view.hart_state trap) trap));
   keeps = λ slot as_created. stays_as_created slot machine invariant as_created hart;
 }
@@ -260,6 +260,7 @@ entry_depends_on_timer_line : (hart_state : HartState) (table_before table : Slo
     → HartInvariant table_before hart_state
     → hart_after_entry hart_state.hart.csrs table slot context ≡ hart_after_entry (reset_csrs_with_timer hart_state.hart.csrs.timer) [] 0 context
 entry_depends_on_timer_line hart_state table_before table slot context hart_invariant =
+    -- the invariant fixes MIE, MPRV, TVM, TW and TSR of mstatus; of the other CSRs, only the timer line reaches the hart after the entry
     let mie = hart_invariant.layout.mstatus_mie in
     let mprv = hart_invariant.layout.mprv in
     let tvm = hart_invariant.layout.tvm in
@@ -314,7 +315,7 @@ same_entry : (place other_place : Place) (one other : MonitoredMachine) → Inva
 same_entry place other_place one other invariant_one invariant_other saved both_enter =
     let slot = place.slot in
     -- the entry changes only the state in the record, so the region and the window stay the same
-    let extent =
+    let extent_unchanged =
     new_state_keeps_extent one.shared.table slot (slot_at one.shared.table slot) Running invariant_one.shared.valid.count refl in
     let first_shared_is =
     ap (λ (machine : MonitoredMachine). machine.shared) (machine_after_entry place one saved.context invariant_one saved.first both_enter.first) in
@@ -322,12 +323,12 @@ same_entry place other_place one other invariant_one invariant_other saved both_
     ap (λ (machine : MonitoredMachine). machine.shared) (machine_after_entry other_place other saved.context invariant_other saved.second
     both_enter.second) in
     -- no byte of memory changes in an entry, so bytes that were equal stay equal
-    let bytes : EqualOutside (is_beyond (slots_with_state one.shared.table slot Running) slot) one.shared.memory other.shared.memory =
+    let bytes_equal : EqualOutside (is_beyond (slots_with_state one.shared.table slot Running) slot) one.shared.memory other.shared.memory =
     record {
       size = saved.memory.size;
       bytes =
           λ index byte_within. saved.memory.bytes index (within_before slot one.shared.table
-          (slots_with_state one.shared.table slot Running) _ extent byte_within);
+          (slots_with_state one.shared.table slot Running) _ extent_unchanged byte_within);
     } in
     record {
       first = runs_after_entry place one saved.context invariant_one saved.first both_enter.first;
@@ -343,7 +344,7 @@ same_entry place other_place one other invariant_one invariant_other saved both_
           subst (λ (shared : Shared). EqualOutside (is_beyond shared.table slot) shared.memory (step_at other_place other).state.shared.memory)
           (sym first_shared_is)
           (subst (λ (shared : Shared). EqualOutside (is_beyond (slots_with_state one.shared.table slot Running) slot) one.shared.memory shared.memory)
-          (sym second_shared_is) bytes);
+          (sym second_shared_is) bytes_equal);
     }
 
 -- proves the reentry law: two enclaves with equal saved states take the same steps from their entry on
@@ -361,8 +362,8 @@ pub equal_fresh_records : (one other : SlotInfo) → args_of one ≡ args_of oth
     → other.state ≡ Fresh
     → one ≡ other
 equal_fresh_records one other args same_digests fresh other_fresh =
-    let record_of : CreateArgs → List ℕ → SlotInfo = λ new same_digests.
-    record { region = new.region; window = new.window; entry = new.entry; measurement = same_digests; state = Fresh } in
+    let record_of : CreateArgs → List ℕ → SlotInfo = λ new measurement.
+    record { region = new.region; window = new.window; entry = new.entry; measurement = measurement; state = Fresh } in
     ap (λ (state : EnclaveState). record one { state = state }) fresh ∙ ap₂ record_of args same_digests
     ∙ sym (ap (λ (state : EnclaveState). record other { state = state }) other_fresh)
 
@@ -374,7 +375,8 @@ attestation_law place other_place count one other invariant_one invariant_other 
     let second_enclave = same_identity.second in
     let memory = one.shared.memory in
     let other_memory = other.shared.memory in
-    let measured =
+    -- equal measured bytes give equal create arguments and equal bytes in the region
+    let measured_parts_equal =
     measurement_law memory other_memory first_enclave.info second_enclave.info invariant_one.shared.valid.ram same_window.size
     (record_is_valid slot one invariant_one first_enclave) (record_is_valid other_place.slot other invariant_other second_enclave)
     same_identity.input in
@@ -382,15 +384,15 @@ attestation_law place other_place count one other invariant_one invariant_other 
     first_enclave.measurement ∙ same_digest memory other_memory (args_of first_enclave.info) (args_of second_enclave.info) same_identity.input
     ∙ sym second_enclave.measurement in
     -- equal measured bytes give equal create arguments and equal measurements, so both records are equal
-    let info =
-    equal_fresh_records first_enclave.info second_enclave.info measured.args same_digests first_enclave.fresh second_enclave.fresh in
+    let records_equal =
+    equal_fresh_records first_enclave.info second_enclave.info measured_parts_equal.args same_digests first_enclave.fresh second_enclave.fresh in
     let some_info : SlotInfo → Option SlotInfo = λ info. Some info in
     let some_first_context : SlotInfo → Option Context = λ info. Some (first_context info) in
     reentry_law place other_place count one other invariant_one invariant_other (record {
       context = first_context first_enclave.info;
       first = first_enclave.context;
-      second = second_enclave.context ∙ ap some_first_context (sym info);
-      slot = first_enclave.is ∙ ap some_info info ∙ sym second_enclave.is;
+      second = second_enclave.context ∙ ap some_first_context (sym records_equal);
+      slot = first_enclave.is ∙ ap some_info records_equal ∙ sym second_enclave.is;
       memory = record {
         size = same_window.size;
         bytes = λ index not_hidden. elim (cases_Bool (has (region one.shared.table slot) (ram_base + index))) [
@@ -398,7 +400,7 @@ attestation_law place other_place count one other invariant_one invariant_other 
           | inl in_region ↦
               let in_region_of_record : has first_enclave.info.region (ram_base + index) ≡ true =
               ap (λ (maybe_info : Option SlotInfo). has (region_of maybe_info) (ram_base + index)) (sym first_enclave.is) ∙ in_region in
-              measured.bytes.bytes index (ap not in_region_of_record)
+              measured_parts_equal.bytes.bytes index (ap not in_region_of_record)
           -- the bytes of the window are equal by the premise
           | inr outside_region ↦ same_window.bytes index (rw outside_region at not_hidden)
         ];

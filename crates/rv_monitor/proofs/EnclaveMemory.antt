@@ -167,14 +167,14 @@ module _ (slot : ℕ) (hart_state : HartState) (runs_enclave : hart_state.world 
   -- the shared state has a table with all slots
   module _ (shared : Shared) (table_length : length shared.table ≡ slot_count) where
     -- the trap handler keeps the region and the window of `slot`, and the size of the memory
-    abbrev Keeps : Handled → Type 0
-    Keeps result =
+    abbrev KeepsExtentAndSize : Handled → Type 0
+    KeepsExtentAndSize result =
         KeepsExtent slot shared.table result.shared.table × (length result.shared.memory ≡ length shared.memory)
 
     -- the trap handler on a hart that runs enclave `slot` keeps the region and window of `slot`, and the size of the memory
-    pub handled_keeps : Keeps (handled hart_state shared trap)
+    pub handler_keeps_extent : KeepsExtentAndSize (handled hart_state shared trap)
     unfolding measured left
-    handled_keeps = handler_cases hart_state trap shared Keeps (record {
+    handler_keeps_extent = handler_cases hart_state trap shared KeepsExtentAndSize (record {
       answers = λ status result. (record { region = refl; window = refl }, refl);
       -- an enclave may neither create, destroy nor enter, so these cases have a false premise
       creates =
@@ -245,9 +245,9 @@ own_alike_after_trap slot outcome (Some trap) hart_state one other runs_enclave 
     let handler_results =
     handler_reads_law hart_state trap one other (same_handler_reads slot hart_state runs_enclave trap one other same_context_count same_for_slot) in
     -- the trap handler keeps the region and the window, so a byte that is within them after the step was within them before
-    let (extent_unchanged, size_unchanged) = handled_keeps slot hart_state runs_enclave trap one table_length in
+    let (extent_unchanged, size_unchanged) = handler_keeps_extent slot hart_state runs_enclave trap one table_length in
     let (_, other_size_unchanged) =
-    handled_keeps slot hart_state runs_enclave trap other (ap (λ (table : Slots). length table) (sym same_for_slot.table) ∙ table_length) in
+    handler_keeps_extent slot hart_state runs_enclave trap other (ap (λ (table : Slots). length table) (sym same_for_slot.table) ∙ table_length) in
     let returned_by : HartState → Next → HartState =
     λ hart_state next. record hart_state { hart = returned_to hart_state.hart next.pc next.mode } in
     let shows : Next → Outcome = λ next. record { step = outcome; entered = next.entered } in

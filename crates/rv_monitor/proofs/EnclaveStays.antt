@@ -24,7 +24,7 @@ use Rattle.rv_monitor.proofs.TrapSteps.{step_cases, hart_state_after, view_witho
 use Rattle.rv_monitor.proofs.HandlerCases.{requested-is_offered, handler_cases}
 use Rattle.rv_monitor.specs.Declassification.{SameHostOn, unswitched}
 use Rattle.rv_monitor.specs.EnclaveSteps.{is_beyond}
-use Rattle.rv_monitor.proofs.EnclaveMemory.{handled_keeps, create_not_offered, destroy_not_offered, not_host, enclave_world_is_not_host, accessible_bytes_are_own, world_is_enclave}
+use Rattle.rv_monitor.proofs.EnclaveMemory.{handler_keeps_extent, create_not_offered, destroy_not_offered, not_host, enclave_world_is_not_host, accessible_bytes_are_own, world_is_enclave}
 
 -- ---- a step of the hart that runs the enclave
 
@@ -104,7 +104,7 @@ module _ (slot : ℕ) (view : HartView) (view_invariant : HartViewInvariant view
         → StaysBehind view (returned outcome (handled hart_state view.shared trap))
     stays_with_trap enclave_runs_after =
         let (host_unchanged, rest_unchanged, table_unchanged, contexts_unchanged) = handler_stays enclave_runs_after in
-        let (_, size_unchanged) = handled_keeps slot hart_state runs_enclave trap view.shared view_invariant.valid.count in
+        let (_, size_unchanged) = handler_keeps_extent slot hart_state runs_enclave trap view.shared view_invariant.valid.count in
         record {
           host = host_unchanged;
           rest = rest_unchanged;

@@ -216,8 +216,9 @@ module _ (first_slot second_slot : ℕ) (first_state second_state : HartState) (
     (second_view_invariant : HartViewInvariant (view_of second_state second_shared))
     (alike : Alike first_slot second_slot (view_of first_state first_shared) (view_of second_state second_shared)) where
   -- the bare steps are equal, as S and U see them
-  abbrev bare : SameBelowM (step (bare_machine (view_of first_state first_shared))) (step (bare_machine (view_of second_state second_shared)))
-  bare =
+  abbrev bare_steps_equal : SameBelowM (step (bare_machine (view_of first_state first_shared)))
+      (step (bare_machine (view_of second_state second_shared)))
+  bare_steps_equal =
       bare_steps_alike first_slot second_slot first_state second_state first_shared second_shared first_view_invariant second_view_invariant alike
 
   -- the second hart is the first one with the parts of M-mode from the second
@@ -256,7 +257,8 @@ module _ (first_slot second_slot : ℕ) (first_state second_state : HartState) (
       λ outcome some_hart other_state. StepAlike first_slot second_slot (returned bare_outcome (handled some_hart first_shared trap))
       (returned outcome (handled other_state second_shared trap)) in
       -- the trap handler gives results that are alike, for these harts and the equal bare outcomes
-      subst (λ (outcome : StepOutcome). StepAlikeFor outcome (hart_state_after first_state trap) (hart_state_after second_state trap)) bare.outcome
+      subst (λ (outcome : StepOutcome). StepAlikeFor outcome (hart_state_after first_state trap) (hart_state_after second_state trap))
+      bare_steps_equal.outcome
       (subst (λ (hart_state : HartState). StepAlikeFor bare_outcome hart_state (hart_state_after second_state trap)) (sym first_state_is)
       (subst (λ (hart_state : HartState). StepAlikeFor bare_outcome
       (running first_slot first_state.host_context (hart_after first_state.hart trap)) hart_state) (sym second_state_is)
@@ -272,17 +274,23 @@ module _ (first_slot second_slot : ℕ) (first_state second_state : HartState) (
       (view_without_trap (view_of second_state second_shared))
   untrapped_alike no_trap = record {
     outcome =
-        ap (λ (outcome : StepOutcome). let monitored : Outcome = record { step = outcome; entered = None } in monitored) bare.outcome;
+        ap (λ (outcome : StepOutcome). let monitored : Outcome = record { step = outcome; entered = None } in monitored) bare_steps_equal.outcome;
     hosts = ap is_host alike.first ∙ sym (ap is_host alike.second);
     runs =
-        λ runs_after. record { first = alike.first; second = alike.second; hart = bare.hart no_trap; slot = alike.slot; memory = bare.memory };
+        λ runs_after. record {
+          first = alike.first;
+          second = alike.second;
+          hart = bare_steps_equal.hart no_trap;
+          slot = alike.slot;
+          memory = bare_steps_equal.memory;
+        };
   }
 
   -- the steps of both views are alike
   step_alike : StepAlike first_slot second_slot (monitored_step (view_of first_state first_shared))
       (monitored_step (view_of second_state second_shared))
   step_alike =
-      let same_traps = ap (λ (outcome : StepOutcome). outcome.trap) bare.outcome in
+      let same_traps = ap (λ (outcome : StepOutcome). outcome.trap) bare_steps_equal.outcome in
       step_cases (view_of first_state first_shared) (λ after. StepAlike first_slot second_slot after
       (monitored_step (view_of second_state second_shared)))
       -- without a trap in the first step, there is none in the second, because the bare outcomes are equal
@@ -303,8 +311,8 @@ module _ (first_slot second_slot : ℕ) (first_state second_state : HartState) (
 -- ---- the exit of an enclave
 
 -- the record with another state, if there is a record
-abbrev with_its_state : EnclaveState → Option SlotInfo → Option SlotInfo
-with_its_state state maybe_info = option_case maybe_info None (λ info. Some (record info { state = state }))
+abbrev record_with_state : EnclaveState → Option SlotInfo → Option SlotInfo
+record_with_state state maybe_info = option_case maybe_info None (λ info. Some (record info { state = state }))
 
 -- the enclave has exited: the host received the reason and the value, and the record and the saved context are those after the trap
 pub record HasExited (place : Place) (cause : Cause) (before after : MonitoredMachine) : Type 0 where
@@ -312,21 +320,22 @@ pub record HasExited (place : Place) (cause : Cause) (before after : MonitoredMa
   pub returned : (let regs = (hart_state_of place.hart before).hart.regs in HasReturned (reason cause regs) (value cause regs) place.hart after)
   -- the record of the enclave has the state after the exit, and its other fields are unchanged
   pub slot : slot_at after.shared.table place.slot
-      ≡ with_its_state (enclave_state_after cause (hart_state_of place.hart before).hart.regs) (slot_at before.shared.table place.slot)
+      ≡ record_with_state (enclave_state_after cause (hart_state_of place.hart before).hart.regs) (slot_at before.shared.table place.slot)
   -- the exit saves the context of the enclave
   pub context : context_at after.shared.contexts place.slot ≡ Some (saved_after cause (hart_state_of place.hart before).hart)
+  -- the exit changes no byte of memory
   pub memory : after.shared.memory ≡ before.shared.memory
   -- the slot keeps its region and its window
   pub extent : KeepsExtent place.slot before.shared.table after.shared.table
 
 -- after a trap of an enclave after which the host runs, the enclave has exited
-pub exited : (place : Place) (machine : MonitoredMachine) (trap : Trap) → Invariant machine → runs_at place machine ≡ true
+pub enclave_has_exited : (place : Place) (machine : MonitoredMachine) (trap : Trap) → Invariant machine → runs_at place machine ≡ true
     → (step_at place machine).outcome.step.trap ≡ Some trap
     → (hart_state_of place.hart (step_at place machine).state).world ≡ Host
     → (saved_host : Option Context) → (hart_state_of place.hart machine).host_context ≡ saved_host
     → HasExited place trap.cause machine (step_at place machine).state
 -- a hart that runs an enclave has a saved context of the host
-exited place machine trap invariant runs trapped host_runs_after None host_context_is =
+enclave_has_exited place machine trap invariant runs trapped host_runs_after None host_context_is =
     let in_range = running_hart_in_range place.slot place.hart machine runs in
     let world = world_is_enclave place.slot (hart_state_of place.hart machine).world runs in
     let contradiction : false ≡ true =
@@ -335,20 +344,20 @@ exited place machine trap invariant runs trapped host_runs_after None host_conte
     ∙ ap (λ (world : World). not (is_host world)) world in
     absurd (false≢true contradiction)
 -- the machine after the step is the machine that `leave_law` gives
-exited place machine trap invariant runs trapped host_runs_after (Some host) host_context_is =
+enclave_has_exited place machine trap invariant runs trapped host_runs_after (Some host) host_context_is =
     let in_range = running_hart_in_range place.slot place.hart machine runs in
     let world = world_is_enclave place.slot (hart_state_of place.hart machine).world runs in
     let hart = (hart_state_of place.hart machine).hart in
     let table = machine.shared.table in
-    let slot = slot_at table place.slot in
-    let after = enclave_state_after trap.cause hart.regs in
-    let count = invariant.shared.valid.count in
-    let contexts = invariant.shared.contexts.count in
+    let maybe_info = slot_at table place.slot in
+    let state_after = enclave_state_after trap.cause hart.regs in
+    let table_length = invariant.shared.valid.count in
+    let context_count = invariant.shared.contexts.count in
     let (left_machine_is, _) =
     leave_law place.hart machine invariant place.slot host trap world host_context_is trapped host_runs_after in
     let hart_state_is = left_hart_state place.hart machine place.slot trap host in_range in
     let live = running_is_live place.slot place.hart machine invariant runs in
-    let slot_in_range = live_slot_in_range table place.slot slot count refl live in
+    let slot_in_range = live_slot_in_range table place.slot maybe_info table_length refl live in
     rw left_machine_is (record {
       -- the host received the reason and the value, and the record and the saved context have their new values
       returned = record {
@@ -356,11 +365,11 @@ exited place machine trap invariant runs trapped host_runs_after (Some host) hos
         host = host.regs;
         regs = ap (λ (hart_state : HartState). hart_state.hart.regs) hart_state_is;
       };
-      slot = slot_with_new_state table place.slot slot after count refl;
+      slot = slot_with_new_state table place.slot maybe_info state_after table_length refl;
       context =
-          at_written_slot machine.shared.contexts place.slot (Some (saved_after trap.cause hart)) (omega (arith, slot_in_range, contexts));
+          at_written_slot machine.shared.contexts place.slot (Some (saved_after trap.cause hart)) (omega (arith, slot_in_range, context_count));
       memory = refl;
-      extent = new_state_keeps_extent table place.slot slot after count refl;
+      extent = new_state_keeps_extent table place.slot maybe_info state_after table_length refl;
     })
 
 -- the context that an exit saves does not depend on the M-mode parts of the hart
@@ -448,9 +457,9 @@ module _ (place other_place : Place) (one other : MonitoredMachine) (invariant_o
       ∙ sym (ap (λ (stepped : HartViewStepped). stepped.outcome) (step_of_view other_place.hart other second_in_range))
 
   -- if the first enclave still runs after the step, then both enclaves have the same state after the step
-  still_runs : runs_at place (step_at place one).state ≡ true
+  same_enclave_if_runs : runs_at place (step_at place one).state ≡ true
       → SameEnclave place other_place (step_at place one).state (step_at other_place other).state
-  still_runs runs_after =
+  same_enclave_if_runs runs_after =
       let after_one = (monitored_step (hart_view place.hart one)).state in
       let after_mixed = (monitored_step (hart_view other_place.hart mixed)).state in
       let first_shared_after = ap (λ (stepped : HartViewStepped). stepped.state.shared) (step_of_view place.hart one first_in_range) in
@@ -461,7 +470,7 @@ module _ (place other_place : Place) (one other : MonitoredMachine) (invariant_o
       first_steps_alike.runs (sym (ap (λ (hart_state : HartState). is_host hart_state.world) first_state_of_view)
       ∙ enclave_world_is_not_host place.slot (hart_state_of place.hart (step_at place one).state).world runs_after) in
       -- bytes within the region and the window are equal in the first, the mixed and the second machine
-      let bytes : EqualOutside (is_beyond after_one.shared.table place.slot) after_one.shared.memory
+      let bytes_equal : EqualOutside (is_beyond after_one.shared.table place.slot) after_one.shared.memory
       (monitored_step (hart_view other_place.hart other)).state.shared.memory =
       record {
         size = ap (λ (memory : List ℕ). length memory) alike.memory ∙ own_steps_alike.shared.memory.size;
@@ -492,7 +501,7 @@ module _ (place other_place : Place) (one other : MonitoredMachine) (invariant_o
             (step_at other_place other).state.shared.memory)
             (sym first_shared_after)
             (subst (λ (shared : Shared). EqualOutside (is_beyond after_one.shared.table place.slot) after_one.shared.memory shared.memory)
-            (sym second_shared_after) bytes);
+            (sym second_shared_after) bytes_equal);
       }
 
   -- if the first enclave does not run after the step, then its hart runs the host
@@ -504,11 +513,11 @@ module _ (place other_place : Place) (one other : MonitoredMachine) (invariant_o
             world_is_host _ (ap (λ (hart_state : HartState). is_host hart_state.world) first_state_of_view ∙ host_runs_after)
         -- an enclave that still runs on the hart contradicts the premise
         | inr enclave_runs_after ↦
-            let runs =
+            let enclave_still_runs =
             ap (λ (hart_state : HartState). is_world_of place.slot hart_state.world) first_state_of_view
             ∙ ap (is_world_of place.slot) (first_steps_alike.runs enclave_runs_after).first
             ∙ eq-eqb place.slot place.slot refl in
-            absurd (both_ways _ not_running runs)
+            absurd (both_ways _ not_running enclave_still_runs)
       ]
 
   -- if the hart of the first enclave runs the host after the step, then the hart of the second enclave runs the host too
@@ -529,14 +538,14 @@ module _ (place other_place : Place) (one other : MonitoredMachine) (invariant_o
       let second_traps = sym (ap (λ (outcome : Outcome). outcome.step.trap) same_outcome) ∙ trapped in
       -- each step is an exit, whose effect the cause and the hart determine
       let first_exit =
-      exited place one trap invariant_one same_enclave.first trapped host_runs_after (hart_state_of place.hart one).host_context refl in
+      enclave_has_exited place one trap invariant_one same_enclave.first trapped host_runs_after (hart_state_of place.hart one).host_context refl in
       let second_exit =
-      exited other_place other trap invariant_other same_enclave.second second_traps (second_runs_host host_runs_after)
+      enclave_has_exited other_place other trap invariant_other same_enclave.second second_traps (second_runs_host host_runs_after)
       (hart_state_of other_place.hart other).host_context refl in
       let cause = trap.cause in
       let first_hart = (hart_state_of place.hart one).hart in
       let second_hart = (hart_state_of other_place.hart other).hart in
-      let regs : first_hart.regs ≡ second_hart.regs = ap (λ (hart : Hart). hart.regs) same_enclave.hart in
+      let regs_equal : first_hart.regs ≡ second_hart.regs = ap (λ (hart : Hart). hart.regs) same_enclave.hart in
       let saved_contexts_equal =
       sym (exit_saves_no_m_parts cause first_hart) ∙ ap (saved_after cause) same_enclave.hart
       ∙ exit_saves_no_m_parts cause second_hart in
@@ -548,15 +557,15 @@ module _ (place other_place : Place) (one other : MonitoredMachine) (invariant_o
         first = first_exit.returned;
         second =
             subst (λ (regs : List ℕ). HasReturned (reason cause regs) (value cause regs) other_place.hart (step_at other_place other).state)
-            (sym regs) second_exit.returned;
+            (sym regs_equal) second_exit.returned;
         -- the saved contexts are equal, because an exit saves what the enclave can see of its hart
         saved = record {
           context = saved_after cause first_hart;
           first = first_exit.context;
           second = second_exit.context ∙ ap some_context (sym saved_contexts_equal);
           slot =
-              first_exit.slot ∙ ap₂ (λ (regs : List ℕ) (maybe_info : Option SlotInfo). with_its_state
-              (enclave_state_after cause regs) maybe_info) regs same_enclave.slot
+              first_exit.slot ∙ ap₂ (λ (regs : List ℕ) (maybe_info : Option SlotInfo). record_with_state
+              (enclave_state_after cause regs) maybe_info) regs_equal same_enclave.slot
               ∙ sym second_exit.slot;
           -- an exit changes no byte of memory
           memory = record {
@@ -576,7 +585,10 @@ module _ (place other_place : Place) (one other : MonitoredMachine) (invariant_o
   enclave_step = record {
     outcome = same_outcome;
     state =
-        record { runs = still_runs; exits = λ not_running. exits_alike (step_at place one).outcome.step.trap refl (first_runs_host not_running) };
+        record {
+          runs = same_enclave_if_runs;
+          exits = λ not_running. exits_alike (step_at place one).outcome.step.trap refl (first_runs_host not_running);
+        };
   }
 
 -- proves that a step of an enclave depends only on the state of the enclave

@@ -64,7 +64,8 @@ module _ (slot : ℕ) (hart_state : HartState) (shared : Shared) (runs_enclave :
       ≡ is_exit_call maybe_call
   exits_by_requested_call None requested = ap is_host runs_enclave
   exits_by_requested_call (Some call) requested =
-      exits_by_call call (requested-is_offered hart_state.world hart_state.hart.regs call requested).1
+      let (_, call_is_offered) = requested-is_offered hart_state.world hart_state.hart.regs call requested in
+      exits_by_call call call_is_offered
 
   -- after an exception, the host runs if and only if the exception is an ecall that requests stop or exit
   exits_by_exception : (trap : Trap) (exception : Exception)

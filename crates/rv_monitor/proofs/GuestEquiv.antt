@@ -128,12 +128,12 @@ SameHostHandled result other_result =
 -- the bit MPRV of the hart is 0
 module _ (hart_state : HartState) (mprv : hart_state.hart.csrs.mstatus.mprv ≡ false) where
   -- the trap handler on two shared states with equal tables gives results with the same host
-  handled_host : (trap : Trap) (table : Slots) (memory other_memory : List ℕ) (contexts other_contexts : Contexts)
+  handler_keeps_host : (trap : Trap) (table : Slots) (memory other_memory : List ℕ) (contexts other_contexts : Contexts)
       → length memory ≡ length other_memory
       → SameHostHandled (handled hart_state (shared_of table memory contexts) trap)
       (handled hart_state (shared_of table other_memory other_contexts) trap)
   unfolding measured entered_slot left with_redirected_trap
-  handled_host trap table memory other_memory contexts other_contexts same_length =
+  handler_keeps_host trap table memory other_memory contexts other_contexts same_length =
       -- in each case both results have the same host context, because the tables are equal
       handler_cases_of_both hart_state trap table memory other_memory contexts other_contexts SameHostHandled (record {
         answers = λ status result. record { host = refl; rest = rw mprv refl };
@@ -159,19 +159,20 @@ module _ (enclave : ℕ) (hart_state : HartState) (one other : Shared) (view_inv
     (runs_other : is_world_of enclave hart_state.world ≡ false)
     (shared_equiv : SharedEquivExcept enclave one other) where
   -- a step with a trap leaves the same host over both shared states
-  trapped_host : (trap : Trap) → SameHostAfter (view_after_trap (view_of hart_state one) trap) (view_after_trap (view_of hart_state other) trap)
-  trapped_host trap =
+  step_with_trap_keeps_host : (trap : Trap)
+      → SameHostAfter (view_after_trap (view_of hart_state one) trap) (view_after_trap (view_of hart_state other) trap)
+  step_with_trap_keeps_host trap =
       let first_handled = handled (hart_state_after hart_state trap) one trap in
       let same_host =
-      handled_host
+      handler_keeps_host
       (hart_state_after hart_state trap) view_invariant_one.hart.layout.mprv trap one.table one.memory other.memory
       one.contexts other.contexts shared_equiv.memory.size in
       subst (λ (shared : Shared). SameHostHandled first_handled (handled (hart_state_after hart_state trap) shared trap))
       (ap (λ (table : Slots). shared_of table other.memory other.contexts) shared_equiv.table) same_host
 
   -- a step leaves the same host over both shared states
-  step_host : SameHostAfter (monitored_step (view_of hart_state one)) (monitored_step (view_of hart_state other))
-  step_host =
+  step_keeps_host : SameHostAfter (monitored_step (view_of hart_state one)) (monitored_step (view_of hart_state other))
+  step_keeps_host =
       let bare_steps_alike =
       bare_law enclave (view_of hart_state one) other.memory view_invariant_one runs_other shared_equiv.memory in
       let traps = ap (λ (outcome : StepOutcome). outcome.trap) bare_steps_alike.outcome in
@@ -188,7 +189,7 @@ module _ (enclave : ℕ) (hart_state : HartState) (one other : Shared) (view_inv
       let traps_equal : trap ≡ second_trap = cc in
       subst (λ (some_trap : Trap). SameHostAfter (view_after_trap (view_of hart_state one) trap)
       (view_after_trap (view_of hart_state other) some_trap)) traps_equal
-      (trapped_host trap)))
+      (step_with_trap_keeps_host trap)))
 
 -- ---- a low step
 
@@ -254,7 +255,7 @@ module _ (enclave hart : ℕ) (one other : MonitoredMachine) (invariant_one : In
       let view_invariant =
       hart_view_invariant hart first_view (guest_invariant one invariant_one) (omega (arith, size_one, in_range)) in
       let same_over_shared =
-      step_host enclave (hart_state_of hart first_view) first_view.shared second_view.shared view_invariant not_running_in_view equiv.shared in
+      step_keeps_host enclave (hart_state_of hart first_view) first_view.shared second_view.shared view_invariant not_running_in_view equiv.shared in
       -- the steps of the guest views leave the same host
       let same_host_after : SameHostAfter (monitored_step (hart_view hart first_view)) (monitored_step (hart_view hart second_view)) =
       subst

@@ -42,69 +42,71 @@ module _ (mcycle minstret : ℕ) (hart_state : HartState) (shared : Shared) wher
   same_refusals _ = refl
 
   -- The effect of a call does not depend on the counters. Each case holds by computation.
-  same_performed : (call : Call) → performed state_with_counters shared call ≡ result_with_counters mcycle minstret (performed hart_state shared call)
+  same_call_effect : (call : Call)
+      → performed state_with_counters shared call ≡ result_with_counters mcycle minstret (performed hart_state shared call)
   unfolding performed entered_slot left
-  same_performed Create = refl
-  same_performed _ = refl
+  same_call_effect Create = refl
+  same_call_effect _ = refl
 
   -- a call, refused or not, has the same result with other counters, if the effect of the call has the same result
-  same_refused : (maybe_refusal : Option Refusal) (result other_result : Handled)
+  same_result_if_refused : (maybe_refusal : Option Refusal) (result other_result : Handled)
       → other_result ≡ result_with_counters mcycle minstret result
       → option_case maybe_refusal other_result (refused state_with_counters shared) ≡ result_with_counters mcycle minstret
       (option_case maybe_refusal result (refused hart_state shared))
-  same_refused None result other_result results_alike = results_alike
-  same_refused (Some refusal) result other_result results_alike = refl
+  same_result_if_refused None result other_result results_alike = results_alike
+  same_result_if_refused (Some refusal) result other_result results_alike = refl
 
   -- a call with its refusals has the same result with other counters
-  same_called : (call : Call) → called state_with_counters shared call ≡ result_with_counters mcycle minstret (called hart_state shared call)
+  same_call_result : (call : Call) → called state_with_counters shared call ≡ result_with_counters mcycle minstret (called hart_state shared call)
   unfolding called
-  same_called call =
+  same_call_result call =
       ap (λ (rows : List (Bool × Refusal)). option_case (first_refusal rows) (performed state_with_counters shared call)
       (refused state_with_counters shared))
       (same_refusals call)
-      ∙ same_refused (first_refusal (call_refusals hart_state shared call)) (performed hart_state shared call)
+      ∙ same_result_if_refused (first_refusal (call_refusals hart_state shared call)) (performed hart_state shared call)
       (performed state_with_counters shared call)
-      (same_performed call)
+      (same_call_effect call)
 
   -- the requested call, if there is one, has the same result with other counters
-  same_requested : (maybe_call : Option Call)
+  same_requested_call_result : (maybe_call : Option Call)
       → option_case maybe_call (refused state_with_counters shared NotSupported) (called state_with_counters shared)
       ≡ result_with_counters mcycle minstret (option_case maybe_call (refused hart_state shared NotSupported) (called hart_state shared))
-  same_requested None = refl
-  same_requested (Some call) = same_called call
+  same_requested_call_result None = refl
+  same_requested_call_result (Some call) = same_call_result call
 
   -- the handling of an exception has the same result with other counters
-  same_exception : (trap : Trap) (exception : Exception)
+  same_exception_result : (trap : Trap) (exception : Exception)
       → handled_exception state_with_counters shared trap exception ≡ result_with_counters mcycle minstret
       (handled_exception hart_state shared trap exception)
   unfolding call_handled with_redirected_trap
-  same_exception trap EnvironmentCallFromS = same_requested (requested_call hart_state.world hart_state.hart.regs)
-  same_exception trap _ = refl
+  same_exception_result trap EnvironmentCallFromS = same_requested_call_result (requested_call hart_state.world hart_state.hart.regs)
+  same_exception_result trap _ = refl
 
   -- the handling of a cause has the same result with other counters
-  same_cause : (trap : Trap) (cause : Cause)
+  same_cause_result : (trap : Trap) (cause : Cause)
       → handled_cause state_with_counters shared trap cause ≡ result_with_counters mcycle minstret (handled_cause hart_state shared trap cause)
   unfolding timer_stopped left
-  same_cause trap (causes.Interrupt interrupt) = refl
-  same_cause trap (causes.Exception exception) = same_exception trap exception
+  same_cause_result trap (causes.Interrupt interrupt) = refl
+  same_cause_result trap (causes.Exception exception) = same_exception_result trap exception
 
   -- the trap handler has the same result with other counters
-  same_handled : (trap : Trap) → handled state_with_counters shared trap ≡ result_with_counters mcycle minstret (handled hart_state shared trap)
+  same_handler_result : (trap : Trap)
+      → handled state_with_counters shared trap ≡ result_with_counters mcycle minstret (handled hart_state shared trap)
   unfolding handled
-  same_handled trap = ap with_reprogrammed_hart (same_cause trap trap.cause)
+  same_handler_result trap = ap with_reprogrammed_hart (same_cause_result trap trap.cause)
 
 -- ---- the step of one hart
 
 -- two steps of a view have the same outcome, the same shared state and the same guest state
-record SameShown (one other : HartViewStepped) : Type 0 where
+record SameGuestStep (one other : HartViewStepped) : Type 0 where
   outcome : one.outcome ≡ other.outcome
   shared : one.state.shared ≡ other.state.shared
   hart_state : guest_state one.state.hart_state ≡ guest_state other.state.hart_state
 
 -- the return from the trap handler with other counters is the same to guests
-same_returned : (outcome : StepOutcome) (result : Handled) (mcycle minstret : ℕ)
-    → SameShown (returned outcome result) (returned outcome (result_with_counters mcycle minstret result))
-same_returned outcome result mcycle minstret = record { outcome = refl; shared = refl; hart_state = refl }
+same_guest_return : (outcome : StepOutcome) (result : Handled) (mcycle minstret : ℕ)
+    → SameGuestStep (returned outcome result) (returned outcome (result_with_counters mcycle minstret result))
+same_guest_return outcome result mcycle minstret = record { outcome = refl; shared = refl; hart_state = refl }
 
 -- the bare steps of the view and of the view with the guest state are the same to guests
 module _ (view : HartView) (alike : SameToGuests (step (bare_machine view)) (step (guest_machine (bare_machine view)))) where
@@ -113,8 +115,8 @@ module _ (view : HartView) (alike : SameToGuests (step (bare_machine view)) (ste
   guest_state_view = record view { hart_state = guest_state view.hart_state }
 
   -- a step without a trap is the same to guests from the view and from the view with the guest state
-  untrapped_same : SameShown (view_without_trap view) (view_without_trap guest_state_view)
-  untrapped_same = record {
+  same_guest_step_without_trap : SameGuestStep (view_without_trap view) (view_without_trap guest_state_view)
+  same_guest_step_without_trap = record {
     outcome =
         ap (λ (outcome : StepOutcome). let shown : Outcome = record { step = outcome; entered = None } in shown) alike.outcome;
     shared = ap (λ (memory : List ℕ). record view.shared { memory = memory }) alike.memory;
@@ -122,34 +124,34 @@ module _ (view : HartView) (alike : SameToGuests (step (bare_machine view)) (ste
   }
 
   -- a step with a trap is the same to guests from the view and from the view with the guest state
-  trapped_same : (trap : Trap) → SameShown (view_after_trap view trap) (view_after_trap guest_state_view trap)
-  trapped_same trap =
+  same_guest_step_with_trap : (trap : Trap) → SameGuestStep (view_after_trap view trap) (view_after_trap guest_state_view trap)
+  same_guest_step_with_trap trap =
       let hart_state = hart_state_after view.hart_state trap in
       let guest_at_trap = hart_state_after (guest_state view.hart_state) trap in
       let mcycle = guest_at_trap.hart.csrs.mcycle in
       let minstret = guest_at_trap.hart.csrs.minstret in
       let handled_state = handled hart_state view.shared trap in
       let bare_outcome = (step (bare_machine view)).outcome in
-      let SameShownFor : StepOutcome → Handled → Type 0 =
-      λ outcome result. SameShown (returned bare_outcome handled_state) (returned outcome result) in
-      subst (λ (outcome : StepOutcome). SameShownFor outcome (handled guest_at_trap view.shared trap)) alike.outcome
-      (subst (SameShownFor bare_outcome) (sym (same_handled mcycle minstret hart_state view.shared trap))
-      (same_returned bare_outcome handled_state mcycle minstret))
+      let SameGuestStepFor : StepOutcome → Handled → Type 0 =
+      λ outcome result. SameGuestStep (returned bare_outcome handled_state) (returned outcome result) in
+      subst (λ (outcome : StepOutcome). SameGuestStepFor outcome (handled guest_at_trap view.shared trap)) alike.outcome
+      (subst (SameGuestStepFor bare_outcome) (sym (same_handler_result mcycle minstret hart_state view.shared trap))
+      (same_guest_return bare_outcome handled_state mcycle minstret))
 
   -- a step is the same to guests from the view and from the view with the guest state
-  same_shown : SameShown (monitored_step view) (monitored_step guest_state_view)
-  same_shown =
+  same_guest_step : SameGuestStep (monitored_step view) (monitored_step guest_state_view)
+  same_guest_step =
       let traps = ap (λ (outcome : StepOutcome). outcome.trap) alike.outcome in
-      step_cases view (λ after. SameShown after (monitored_step guest_state_view))
-      (λ no_trap. step_cases guest_state_view (λ after. SameShown (view_without_trap view) after) (λ no_second_trap. untrapped_same)
+      step_cases view (λ after. SameGuestStep after (monitored_step guest_state_view))
+      (λ no_trap. step_cases guest_state_view (λ after. SameGuestStep (view_without_trap view) after) (λ no_second_trap. same_guest_step_without_trap)
       (λ trap trapped. let contradiction : None ≡ Some trap = sym no_trap ∙ traps ∙ trapped in cc))
-      (λ trap trapped. step_cases guest_state_view (λ after. SameShown (view_after_trap view trap) after)
+      (λ trap trapped. step_cases guest_state_view (λ after. SameGuestStep (view_after_trap view trap) after)
       (λ no_trap. let contradiction : Some trap ≡ None = sym trapped ∙ traps ∙ no_trap in cc)
       (λ second_trap second_trapped.
       let some_traps_equal : Some trap ≡ Some second_trap = sym trapped ∙ traps ∙ second_trapped in
       let traps_equal : trap ≡ second_trap = cc in
-      subst (λ (some_trap : Trap). SameShown (view_after_trap view trap) (view_after_trap guest_state_view some_trap)) traps_equal
-      (trapped_same trap)))
+      subst (λ (some_trap : Trap). SameGuestStep (view_after_trap view trap) (view_after_trap guest_state_view some_trap)) traps_equal
+      (same_guest_step_with_trap trap)))
 
 -- ---- the step of the machine
 
@@ -172,27 +174,27 @@ guest_states_twice : (hart_states : List HartState)
 guest_states_twice hart_states = sym (map-map guest_state guest_state hart_states)
 
 -- reprogramming after a trap leaves the same guest states from the hart states and from their guest states
-reprogrammed_same : (maybe_trap : Option Trap) (table : Slots) (hart_states : List HartState)
+same_guest_states_reprogrammed : (maybe_trap : Option Trap) (table : Slots) (hart_states : List HartState)
     → map guest_state (hart_states_reprogrammed maybe_trap table hart_states)
     ≡ map guest_state (hart_states_reprogrammed maybe_trap table (map guest_state hart_states))
-reprogrammed_same None table hart_states = guest_states_twice hart_states
-reprogrammed_same (Some trap) table hart_states =
+same_guest_states_reprogrammed None table hart_states = guest_states_twice hart_states
+same_guest_states_reprogrammed (Some trap) table hart_states =
     map-map guest_state (reprogrammed table) hart_states
     ∙ sym
     (map-map guest_state (reprogrammed table) (map guest_state hart_states)
     ∙ map-map (λ (hart_state : HartState). guest_state (reprogrammed table hart_state)) guest_state hart_states)
 
 -- if two views after a step are the same to guests, then so are the machines after the step
-stepped_same : (hart : ℕ) (machine : MonitoredMachine) (stepped other_stepped : HartViewStepped)
-    → SameShown stepped other_stepped
+same_guest_machine : (hart : ℕ) (machine : MonitoredMachine) (stepped other_stepped : HartViewStepped)
+    → SameGuestStep stepped other_stepped
     → guest_view (stepped_by hart machine stepped).state ≡ guest_view (stepped_by hart (guest_view machine) other_stepped).state
-stepped_same hart machine stepped other_stepped same_shown_after =
+same_guest_machine hart machine stepped other_stepped same_guest_steps =
     let hart_states = machine.hart_states in
     let guest_states = (guest_view machine).hart_states in
     let first_trap = stepped.outcome.step.trap in
     let first_table = stepped.state.shared.table in
-    let same_trap = ap (λ (outcome : Outcome). outcome.step.trap) same_shown_after.outcome in
-    let same_table = ap (λ (shared : Shared). shared.table) same_shown_after.shared in
+    let same_trap = ap (λ (outcome : Outcome). outcome.step.trap) same_guest_steps.outcome in
+    let same_table = ap (λ (shared : Shared). shared.table) same_guest_steps.shared in
     let machine_of : List HartState → Shared → MonitoredMachine =
     λ hart_states shared. record { hart_states = hart_states; shared = shared } in
     -- the guest states of a written list are the written list of guest states
@@ -204,13 +206,13 @@ stepped_same hart machine stepped other_stepped same_shown_after =
     -- both reprogrammings give the same guest states, because the traps and the tables are equal
     let reprogrammed_alike : map guest_state (hart_states_reprogrammed first_trap first_table hart_states) ≡ map guest_state
     (hart_states_reprogrammed other_stepped.outcome.step.trap other_stepped.state.shared.table guest_states) =
-    reprogrammed_same first_trap first_table hart_states
+    same_guest_states_reprogrammed first_trap first_table hart_states
     ∙ ap₂ (λ (maybe_trap : Option Trap) (table : Slots). map guest_state
     (hart_states_reprogrammed maybe_trap table guest_states)) same_trap same_table in
     ap₂ machine_of
     (first_states ∙ ap₂ (λ (hart_states : List HartState) (hart_state : HartState). slice_set hart_states hart hart_state) reprogrammed_alike
-    same_shown_after.hart_state
-    ∙ sym second_states) same_shown_after.shared
+    same_guest_steps.hart_state
+    ∙ sym second_states) same_guest_steps.shared
 
 -- a step of a machine and a step of its guest view have the same outcome, and leave the same guest view
 pub guest_step_of : (hart : ℕ) (machine : MonitoredMachine) → Invariant machine
@@ -219,8 +221,8 @@ guest_step_of hart machine invariant = elim (cases_lt hart (count_of machine)) [
   -- a hart that the machine does not have makes no step
   | inr past_last ↦
       let same_length = length-map machine.hart_states guest_state in
-      let guest_outside = outside hart (guest_view machine) (omega (arith, same_length, past_last)) in
-      rw (outside hart machine past_last, guest_outside)
+      let guest_step_is = outside hart (guest_view machine) (omega (arith, same_length, past_last)) in
+      rw (outside hart machine past_last, guest_step_is)
       (record {
         outcome = refl;
         state =
@@ -234,15 +236,15 @@ guest_step_of hart machine invariant = elim (cases_lt hart (count_of machine)) [
       let alike = guest_step (bare_machine view) view_invariant.hart.layout.mode view_invariant.hart.layout.mprv in
       let view_with : HartState → HartView = λ hart_state. record { hart_state = hart_state; shared = machine.shared } in
       -- the state of the hart in the guest view is the guest state of the hart
-      let same_to_guests : SameShown (monitored_step view) (monitored_step (hart_view hart (guest_view machine))) =
-      subst (λ (hart_state : HartState). SameShown (monitored_step view) (monitored_step (view_with hart_state)))
+      let same_to_guests : SameGuestStep (monitored_step view) (monitored_step (hart_view hart (guest_view machine))) =
+      subst (λ (hart_state : HartState). SameGuestStep (monitored_step view) (monitored_step (view_with hart_state)))
       (sym (guest_hart_state hart machine))
-      (same_shown view alike) in
-      let guest_inside = machine_step_is hart (guest_view machine) (omega (arith, size, in_range)) in
-      rw (machine_step_is hart machine in_range, guest_inside) (record {
+      (same_guest_step view alike) in
+      let guest_machine_step_is = machine_step_is hart (guest_view machine) (omega (arith, size, in_range)) in
+      rw (machine_step_is hart machine in_range, guest_machine_step_is) (record {
         outcome = same_to_guests.outcome;
         state =
-            stepped_same hart machine (monitored_step view) (monitored_step (hart_view hart (guest_view machine))) same_to_guests;
+            same_guest_machine hart machine (monitored_step view) (monitored_step (hart_view hart (guest_view machine))) same_to_guests;
       })
 ]
 

@@ -92,34 +92,34 @@ module _ (table : Slots) (memory other_memory : List ℕ) (contexts other_contex
   same_record new bytes = rw bytes refl
 
   -- equal bytes and contexts stay equal after a create, if the bytes of the region are equal
-  created_same : (new : CreateArgs) → bytes_of_block memory new.region ≡ bytes_of_block other_memory new.region
+  same_after_create : (new : CreateArgs) → bytes_of_block memory new.region ≡ bytes_of_block other_memory new.region
       → StaySame (created first_shared new) (created second_shared new)
   unfolding created
-  created_same new bytes =
+  same_after_create new bytes =
       let records_equal = same_record new bytes in
       let slot = new_slot table in
       rw (← records_equal) (same_after_new_context (with_slot table slot (Some (recorded memory new))) slot
       (Some (first_context (recorded memory new))))
 
   -- equal bytes and contexts stay equal after a destroy
-  destroyed_same : (slot : ℕ) → StaySame (destroyed first_shared slot) (destroyed second_shared slot)
+  same_after_destroy : (slot : ℕ) → StaySame (destroyed first_shared slot) (destroyed second_shared slot)
   unfolding destroyed
-  destroyed_same slot =
+  same_after_destroy slot =
       let block = region table slot in
-      let write_stays_same = same_after_write (with_slot table slot None) block.base (replicate block.size 0) in
-      let context_stays_same = same_after_new_context table slot None in
-      record { table = refl; bytes = write_stays_same.bytes; contexts = context_stays_same.contexts }
+      let memory_stays_same = same_after_write (with_slot table slot None) block.base (replicate block.size 0) in
+      let contexts_stay_same = same_after_new_context table slot None in
+      record { table = refl; bytes = memory_stays_same.bytes; contexts = contexts_stay_same.contexts }
 
   -- equal bytes and contexts stay equal after a measure
-  measured_same : (slot address : ℕ) → StaySame (measured first_shared slot address) (measured second_shared slot address)
+  same_after_measure : (slot address : ℕ) → StaySame (measured first_shared slot address) (measured second_shared slot address)
   unfolding measured
-  measured_same slot address = same_after_write table address (measurement_at table slot)
+  same_after_measure slot address = same_after_write table address (measurement_at table slot)
 
   -- the trap handler reads the same from both shared states
   module _ (hart_state : HartState) (trap : Trap) (same_read : SameRead hart_state trap.cause first_shared second_shared) where
     -- two results of the trap handler are equal, and equal bytes and contexts stay equal
-    abbrev HandlerCases : Handled → Handled → Type 0
-    HandlerCases one other = SameHandling first_shared second_shared one other
+    abbrev ResultsSame : Handled → Handled → Type 0
+    ResultsSame one other = SameHandling first_shared second_shared one other
 
     -- a requested call is the call that the definition `requested_by` gives
     requested_call_is : (call : Call) → Requests hart_state trap.cause call
@@ -127,10 +127,10 @@ module _ (table : Slots) (memory other_memory : List ℕ) (contexts other_contex
     requested_call_is call requests = let is_call = requests.is_call in rw is_call requests.asked
 
     -- a return to the caller gives equal results
-    caller_same : (one other : Shared) (status result : ℕ) → StaySame one other
-        → HandlerCases (with_reprogrammed_hart (returned_to_caller hart_state one status result))
+    same_return : (one other : Shared) (status result : ℕ) → StaySame one other
+        → ResultsSame (with_reprogrammed_hart (returned_to_caller hart_state one status result))
         (with_reprogrammed_hart (returned_to_caller hart_state other status result))
-    caller_same one other status result stay_same =
+    same_return one other status result stay_same =
         record {
           hart_state =
               ap (λ (table : Slots). reprogrammed table (returned_to_caller hart_state one status result).hart_state) stay_same.table;
@@ -139,10 +139,10 @@ module _ (table : Slots) (memory other_memory : List ℕ) (contexts other_contex
         }
 
     -- an entry gives equal results, if both saved contexts of the slot are equal
-    enters_same : context_at contexts (a0 hart_state) ≡ context_at other_contexts (a0 hart_state)
-        → HandlerCases (with_reprogrammed_hart (entering hart_state first_shared)) (with_reprogrammed_hart (entering hart_state second_shared))
+    same_entry : context_at contexts (a0 hart_state) ≡ context_at other_contexts (a0 hart_state)
+        → ResultsSame (with_reprogrammed_hart (entering hart_state first_shared)) (with_reprogrammed_hart (entering hart_state second_shared))
     unfolding entered_slot
-    enters_same contexts_equal =
+    same_entry contexts_equal =
         let saved_contexts_equal : saved_context contexts (a0 hart_state) ≡ saved_context other_contexts (a0 hart_state) =
         ap (λ (maybe_context : Option Context). option_case maybe_context exited_context (λ context. context)) contexts_equal in
         rw (← saved_contexts_equal)
@@ -154,19 +154,19 @@ module _ (table : Slots) (memory other_memory : List ℕ) (contexts other_contex
     entering_call call is_entry_call requests = let call_is = requested_call_is call requests in rw call_is is_entry_call
 
     -- the trap handler gives equal results
-    handled_same : HandlerCases (handled hart_state first_shared trap) (handled hart_state second_shared trap)
+    same_results : ResultsSame (handled hart_state first_shared trap) (handled hart_state second_shared trap)
     unfolding left
-    handled_same =
+    same_results =
         -- each case gives equal results, because the trap handler reads equal bytes and equal contexts
-        handler_cases_of_both hart_state trap table memory other_memory contexts other_contexts HandlerCases (record {
-          answers = λ status result. caller_same first_shared second_shared status result same_if_unchanged;
+        handler_cases_of_both hart_state trap table memory other_memory contexts other_contexts ResultsSame (record {
+          answers = λ status result. same_return first_shared second_shared status result same_if_unchanged;
           creates =
-              λ requests no_refusal. caller_same _ _ 0 (new_slot table)
-              (created_same (create_args_of hart_state.hart.regs) (same_read.measured (requested_call_is Create requests)));
-          destroys = λ requests slot_accepted. caller_same _ _ 0 0 (destroyed_same (a0 hart_state));
-          measures = λ requests no_refusal. caller_same _ _ 0 0 (measured_same (measured_slot hart_state.world (a0 hart_state)) (a1 hart_state));
+              λ requests no_refusal. same_return _ _ 0 (new_slot table)
+              (same_after_create (create_args_of hart_state.hart.regs) (same_read.measured (requested_call_is Create requests)));
+          destroys = λ requests slot_accepted. same_return _ _ 0 0 (same_after_destroy (a0 hart_state));
+          measures = λ requests no_refusal. same_return _ _ 0 0 (same_after_measure (measured_slot hart_state.world (a0 hart_state)) (a1 hart_state));
           enters =
-              λ call requests is_entry_call from_host slot_accepted. enters_same (same_read.entered (entering_call call is_entry_call requests));
+              λ call requests is_entry_call from_host slot_accepted. same_entry (same_read.entered (entering_call call is_entry_call requests));
           leaves =
               let slot = running_slot hart_state.world in
               let after = with_state table slot (enclave_state_after trap.cause hart_state.hart.regs) in
@@ -183,7 +183,7 @@ handler_reads_law hart_state trap one other same_reads =
     let second_with = λ (table : Slots). shared_of table other.memory other.contexts in
     subst (λ (table : Slots). SameHandling one (second_with table) (handled hart_state one trap)
     (handled hart_state (second_with table) trap)) tables_equal
-    (handled_same one.table one.memory other.memory one.contexts other.contexts same_reads.size same_reads.slots hart_state trap same_read_over_table)
+    (same_results one.table one.memory other.memory one.contexts other.contexts same_reads.size same_reads.slots hart_state trap same_read_over_table)
 
 -- ---- the step
 

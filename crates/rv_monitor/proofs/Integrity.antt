@@ -52,8 +52,8 @@ running_slot_is_other slot Host in_table not_running =
 running_slot_is_other slot (Enclave running) in_table not_running = not_running
 
 -- if the trap handler does not enter the slot, and the slot is live after the trap handler, then the slot is unchanged
-abbrev Keeps : ℕ → Shared → Handled → Type 0
-Keeps slot before result =
+abbrev KeepsLiveSlot : ℕ → Shared → Handled → Type 0
+KeepsLiveSlot slot before result =
     enters slot result.next.entered ≡ false → is_live result.shared.table slot ≡ true → KeepsSlot slot before result.shared
 
 -- the enclave of the slot is live before the trap handler of a hart that does not run this enclave
@@ -61,9 +61,9 @@ module _ (slot : ℕ) (hart_state : HartState) (shared : Shared) (valid : IsVali
     (not_running : is_world_of slot hart_state.world ≡ false)
     (live : is_live shared.table slot ≡ true) where
   -- a create leaves the live slot unchanged
-  created_keeps : (new : CreateArgs) → MayCreate shared new → KeepsSlot slot shared (created shared new)
+  create_keeps_slot : (new : CreateArgs) → MayCreate shared new → KeepsSlot slot shared (created shared new)
   unfolding created
-  created_keeps new no_refusal =
+  create_keeps_slot new no_refusal =
       let free = (free_slot_from shared.table (new_slot shared.table) no_refusal.free).free in
       let distinct : slot ≢ new_slot shared.table =
       λ slots_equal. both_ways _ (ap (λ (maybe_info : Option SlotInfo). is_some maybe_info) free) (rw (← slots_equal) live) in
@@ -74,11 +74,11 @@ module _ (slot : ℕ) (hart_state : HartState) (shared : Shared) (valid : IsVali
       }
 
   -- a destroy after which the slot is live leaves the slot unchanged
-  destroyed_keeps : (other_slot : ℕ) → SlotIsAccepted shared.table Destroy other_slot
+  destroy_keeps_slot : (other_slot : ℕ) → SlotIsAccepted shared.table Destroy other_slot
       → is_live (destroyed shared other_slot).table slot ≡ true
       → KeepsSlot slot shared (destroyed shared other_slot)
   unfolding destroyed
-  destroyed_keeps other_slot slot_accepted live_after = elim (cases_eq slot other_slot) [
+  destroy_keeps_slot other_slot slot_accepted live_after = elim (cases_eq slot other_slot) [
     -- the destroyed slot is free after the destroy, but `slot` is live
     | inl equal ↦
         let slot_in_range = live_in_range shared.table other_slot slot_accepted.info valid.count slot_accepted.is in
@@ -93,15 +93,15 @@ module _ (slot : ℕ) (hart_state : HartState) (shared : Shared) (valid : IsVali
         }
   ]
 
-  -- the trap handler satisfies `Keeps` for the slot
-  handled_keeps : (trap : Trap) → Keeps slot shared (handled hart_state shared trap)
+  -- the trap handler satisfies `KeepsLiveSlot` for the slot
+  handler_keeps_slot : (trap : Trap) → KeepsLiveSlot slot shared (handled hart_state shared trap)
   unfolding measured entered_slot left
   -- a create fills a free slot, a destroy ends the slot that it names, and an entry or exit changes only the slot of its enclave
-  handled_keeps trap = handler_cases hart_state trap shared (Keeps slot shared) (record {
+  handler_keeps_slot trap = handler_cases hart_state trap shared (KeepsLiveSlot slot shared) (record {
     answers = λ status result not_entered live_after. record { slot = refl; context = refl };
     creates =
-        λ requests no_refusal not_entered live_after. created_keeps (create_args_of hart_state.hart.regs) no_refusal;
-    destroys = λ requests slot_accepted not_entered live_after. destroyed_keeps (a0 hart_state) slot_accepted live_after;
+        λ requests no_refusal not_entered live_after. create_keeps_slot (create_args_of hart_state.hart.regs) no_refusal;
+    destroys = λ requests slot_accepted not_entered live_after. destroy_keeps_slot (a0 hart_state) slot_accepted live_after;
     measures = λ requests no_refusal not_entered live_after. record { slot = refl; context = refl };
     enters =
         λ call requests is_entry_call from_host slot_accepted not_entered live_after. state_keeps_other_slots slot
@@ -138,7 +138,9 @@ region_byte_unchanged view slot byte view_invariant not_running live_after in_re
         | inr call ↦ elim call.change [
           -- a destroy zeroes the region of the destroyed enclave, which is not live after the step, or is another enclave with another region
           | inl destroyed ↦ elim (cases_eq slot (register view.hart_state.hart.regs 10)) [
+            -- the destroyed enclave is not live after the step, but the enclave of `slot` is
             | inl slots_equal ↦ absurd (both_ways _ (rw (← slots_equal) at destroyed.gone) live_after)
+            -- the regions of two different slots have no common byte
             | inr slots_differ ↦
                 absurd (both_ways _ (apart_at (region shared.table slot) (region shared.table (register view.hart_state.hart.regs 10)) byte
                 (valid.regions_apart slot (register view.hart_state.hart.regs 10) slots_differ) in_region) destroyed.own)
@@ -161,18 +163,18 @@ pub integrity_in : (view : HartView) → HartViewInvariant view → (slot : ℕ)
     → is_live (monitored_step view).state.shared.table slot ≡ true
     → IsPreserved slot view.shared (monitored_step view).state.shared
 integrity_in view view_invariant slot not_running live not_entered live_after =
-    let keeps = step_cases view
+    let keeps_slot = step_cases view
     (λ after. enters slot after.outcome.entered ≡ false → is_live after.state.shared.table slot ≡ true
     → KeepsSlot slot view.shared after.state.shared)
     (λ no_trap not_entered live_after. record { slot = refl; context = refl })
-    (λ trap trapped. handled_keeps slot (hart_state_after view.hart_state trap) view.shared view_invariant.valid not_running live trap) in
-    let kept_slot = keeps not_entered live_after in
+    (λ trap trapped. handler_keeps_slot slot (hart_state_after view.hart_state trap) view.shared view_invariant.valid not_running live trap) in
+    let slot_unchanged = keeps_slot not_entered live_after in
     -- the bytes of the region are unchanged, because the step neither runs nor destroys the enclave
     record {
-      slot = kept_slot.slot;
+      slot = slot_unchanged.slot;
       bytes =
           λ byte in_its_region. region_byte_unchanged view slot byte view_invariant not_running live_after in_its_region;
-      context = kept_slot.context;
+      context = slot_unchanged.context;
     }
 
 -- proves integrity: a step leaves each other live enclave untouched, unless the step enters or destroys this enclave

@@ -27,27 +27,27 @@ use Rattle.rv_monitor.proofs.Alignment.{aligned_twice}
 use Rattle.rv_monitor.proofs.StepInvariant.{without_trap}
 
 -- the S-mode registers of the hart are legal in a context
-abbrev Legal : CsrState → Type 0
-Legal csrs = IsLegal (s_context csrs)
+abbrev RegistersAreLegal : CsrState → Type 0
+RegistersAreLegal csrs = IsLegal (s_context csrs)
 
 -- ---- the trap handler
 
 -- every saved context is legal
-abbrev AllLegal : Contexts → Type 0
-AllLegal saved_contexts = (slot : ℕ) → IfSome (context_at saved_contexts slot) (λ context. IsLegal context.supervisor)
+abbrev ContextsAreLegal : Contexts → Type 0
+ContextsAreLegal saved_contexts = (slot : ℕ) → IfSome (context_at saved_contexts slot) (λ context. IsLegal context.supervisor)
 
 -- every saved context stays legal after a write of a legal context to one slot
-legal_after_write : (saved_contexts : Contexts) (written_slot : ℕ) (maybe_context : Option Context) → AllLegal saved_contexts
+legal_after_write : (saved_contexts : Contexts) (written_slot : ℕ) (maybe_context : Option Context) → ContextsAreLegal saved_contexts
     → IfSome maybe_context (λ context. IsLegal context.supervisor)
-    → AllLegal (with_context saved_contexts written_slot maybe_context)
-legal_after_write saved_contexts written_slot maybe_context all_legal legal slot =
+    → ContextsAreLegal (with_context saved_contexts written_slot maybe_context)
+legal_after_write saved_contexts written_slot maybe_context contexts_legal legal slot =
     let LegalIfSome : Option Context → Type 0 =
     λ maybe_context. IfSome maybe_context (λ context. IsLegal context.supervisor) in
     elim (cases_lt written_slot (length saved_contexts)) [
       -- a write outside the list changes nothing
       | inr past_last ↦
           subst (λ (contexts : Contexts). LegalIfSome (context_at contexts slot)) (sym (set_past saved_contexts written_slot maybe_context past_last))
-          (all_legal slot)
+          (contexts_legal slot)
       | inl in_range ↦ elim (cases_eq slot written_slot) [
         -- the written slot has the new context, which is legal
         | inl is_written_slot ↦
@@ -56,14 +56,14 @@ legal_after_write saved_contexts written_slot maybe_context all_legal legal slot
             (subst LegalIfSome (sym (at_written_slot saved_contexts written_slot maybe_context in_range)) legal)
         -- every other slot keeps its context
         | inr is_other_slot ↦
-            subst LegalIfSome (sym (at_other_slot saved_contexts written_slot slot maybe_context is_other_slot)) (all_legal slot)
+            subst LegalIfSome (sym (at_other_slot saved_contexts written_slot slot maybe_context is_other_slot)) (contexts_legal slot)
       ]
     ]
 
 -- the S-mode registers are legal after the monitor restores a context
-restored_legal : (csrs : CsrState) (supervisor : SContext) → Legal (with_s_context csrs supervisor)
-restored_legal csrs supervisor =
-    let stored = with_s_context_stored csrs supervisor in record { stvec = stored.stvec; sepc = stored.sepc }
+restored_registers_legal : (csrs : CsrState) (supervisor : SContext) → RegistersAreLegal (with_s_context csrs supervisor)
+restored_registers_legal csrs supervisor =
+    let restored_registers = with_s_context_stored csrs supervisor in record { stvec = restored_registers.stvec; sepc = restored_registers.sepc }
 
 -- a context whose stvec and sepc are 0 is legal
 zero_context_legal : (context : Context) → context.supervisor.stvec ≡ 0
@@ -74,10 +74,10 @@ zero_context_legal context stvec sepc =
     record { stvec = ap vector_of stvec ∙ zero_vector ∙ sym stvec; sepc = ap aligned_to_4 sepc ∙ zero_aligned ∙ sym sepc }
 
 -- the context that an exit saves is legal
-saved_legal : (cause : Cause) (hart_state : HartState) → Legal hart_state.hart.csrs
+exit_saves_legal_context : (cause : Cause) (hart_state : HartState) → RegistersAreLegal hart_state.hart.csrs
     → IsLegal (context_saved_by cause hart_state).supervisor
-saved_legal (causes.Interrupt interrupt) hart_state legal = legal
-saved_legal (causes.Exception exception) hart_state legal =
+exit_saves_legal_context (causes.Interrupt interrupt) hart_state legal = legal
+exit_saves_legal_context (causes.Exception exception) hart_state legal =
     stopped_or_exited_legal (register hart_state.hart.regs 16 == call_number Exit) where
       -- both the empty context and the context that stop saves are legal
       stopped_or_exited_legal : (is_exit : Bool)
@@ -87,12 +87,12 @@ saved_legal (causes.Exception exception) hart_state legal =
 
 -- the S-mode registers and all saved contexts are legal after the trap handler
 record LegalAfterHandler (result : Handled) : Type 0 where
-  supervisor : Legal result.hart_state.hart.csrs
-  contexts : AllLegal result.shared.contexts
+  supervisor : RegistersAreLegal result.hart_state.hart.csrs
+  contexts : ContextsAreLegal result.shared.contexts
 
 -- the S-mode registers, mepc and all saved contexts are legal at the trap
-module _ (hart_state : HartState) (shared : Shared) (trap : Trap) (legal : Legal hart_state.hart.csrs)
-    (mepc : aligned_to_4 hart_state.hart.csrs.mepc ≡ hart_state.hart.csrs.mepc) (all_legal : AllLegal shared.contexts) where
+module _ (hart_state : HartState) (shared : Shared) (trap : Trap) (legal : RegistersAreLegal hart_state.hart.csrs)
+    (mepc_aligned : aligned_to_4 hart_state.hart.csrs.mepc ≡ hart_state.hart.csrs.mepc) (contexts_legal : ContextsAreLegal shared.contexts) where
   -- the trap handler leaves legal S-mode registers and legal saved contexts
   handler_keeps_legal : LegalAfterHandler (handled hart_state shared trap)
   unfolding created destroyed measured entered_slot left with_redirected_trap first_context
@@ -100,46 +100,47 @@ module _ (hart_state : HartState) (shared : Shared) (trap : Trap) (legal : Legal
       -- create and an exit save a legal context, an entry and a destroy clear the saved context, and a redirection moves mepc to sepc
       handler_cases hart_state trap shared LegalAfterHandler (record {
         answers =
-            λ status result. record { supervisor = record { stvec = legal.stvec; sepc = legal.sepc }; contexts = all_legal };
+            λ status result. record { supervisor = record { stvec = legal.stvec; sepc = legal.sepc }; contexts = contexts_legal };
         -- a create saves the first context, whose S-mode registers are 0
         creates = λ requests no_refusal. record {
           supervisor = record { stvec = legal.stvec; sepc = legal.sepc };
-          contexts = legal_after_write shared.contexts _ _ all_legal
+          contexts = legal_after_write shared.contexts _ _ contexts_legal
               (zero_context_legal (first_context (recorded shared.memory (create_args_of hart_state.hart.regs))) refl refl);
         };
         -- a destroy clears the saved context of the slot
         destroys = λ requests slot_accepted. record {
           supervisor = record { stvec = legal.stvec; sepc = legal.sepc };
-          contexts = legal_after_write shared.contexts _ None all_legal tt;
+          contexts = legal_after_write shared.contexts _ None contexts_legal tt;
         };
         measures =
-            λ requests no_refusal. record { supervisor = record { stvec = legal.stvec; sepc = legal.sepc }; contexts = all_legal };
+            λ requests no_refusal. record { supervisor = record { stvec = legal.stvec; sepc = legal.sepc }; contexts = contexts_legal };
         -- an entry loads the S-mode registers of the saved context, and clears this saved context
         enters = λ call requests is_entry_call from_host slot_accepted.
-            let restored =
-            restored_legal hart_state.hart.csrs (saved_context shared.contexts (a0 hart_state)).supervisor in
+            let registers_legal =
+            restored_registers_legal hart_state.hart.csrs (saved_context shared.contexts (a0 hart_state)).supervisor in
             record {
-              supervisor = record { stvec = restored.stvec; sepc = restored.sepc };
-              contexts = legal_after_write shared.contexts _ None all_legal tt;
+              supervisor = record { stvec = registers_legal.stvec; sepc = registers_legal.sepc };
+              contexts = legal_after_write shared.contexts _ None contexts_legal tt;
             };
         -- an exit loads the S-mode registers of the host, and saves the context of the enclave
         leaves =
-            let restored = restored_legal hart_state.hart.csrs (saved_host hart_state).supervisor in
+            let registers_legal = restored_registers_legal hart_state.hart.csrs (saved_host hart_state).supervisor in
             record {
-              supervisor = record { stvec = restored.stvec; sepc = restored.sepc };
-              contexts = legal_after_write shared.contexts _ _ all_legal (saved_legal trap.cause hart_state legal);
+              supervisor = record { stvec = registers_legal.stvec; sepc = registers_legal.sepc };
+              contexts = legal_after_write shared.contexts _ _ contexts_legal (exit_saves_legal_context trap.cause hart_state legal);
             };
         -- a redirection moves mepc, which is a multiple of 4, to sepc
-        redirects = record { supervisor = record { stvec = legal.stvec; sepc = mepc }; contexts = all_legal };
+        redirects = record { supervisor = record { stvec = legal.stvec; sepc = mepc_aligned }; contexts = contexts_legal };
       })
 
 -- ---- the step of one hart
 
 -- pc, the S-mode registers and the saved contexts of the view are legal
 record ViewIsLegal (view : HartView) : Type 0 where
+  -- pc is a multiple of 4
   pc : aligned_to_4 view.hart_state.hart.pc ≡ view.hart_state.hart.pc
   supervisor : IsLegal (s_context view.hart_state.hart.csrs)
-  contexts : AllLegal view.shared.contexts
+  contexts : ContextsAreLegal view.shared.contexts
 
 -- a step of a view leaves pc, the S-mode registers and the saved contexts legal
 step_keeps_view_legal : (view : HartView) → HartViewInvariant view → ViewIsLegal view
@@ -147,11 +148,11 @@ step_keeps_view_legal : (view : HartView) → HartViewInvariant view → ViewIsL
 step_keeps_view_legal view view_invariant legal = step_cases view (λ after. ViewIsLegal after.state)
     -- without a trap, the hart stores only legal values
     (λ no_trap.
-    let hart = without_trap _ _ no_trap (keeps_stored (bare_machine view) view_invariant.hart.layout.mode (record {
+    let legal_hart = without_trap _ _ no_trap (keeps_stored (bare_machine view) view_invariant.hart.layout.mode (record {
       pc = legal.pc;
       csrs = record { stvec = legal.supervisor.stvec; sepc = legal.supervisor.sepc };
     })) in
-    record { pc = hart.pc; supervisor = record { stvec = hart.csrs.stvec; sepc = hart.csrs.sepc }; contexts = legal.contexts })
+    record { pc = legal_hart.pc; supervisor = record { stvec = legal_hart.csrs.stvec; sepc = legal_hart.csrs.sepc }; contexts = legal.contexts })
     -- with a trap, the trap handler leaves legal registers and legal saved contexts
     (λ trap trapped.
     let hart_state = hart_state_after view.hart_state trap in
@@ -175,10 +176,10 @@ step_keeps_legal hart machine invariant legal = elim (cases_lt hart (count_of ma
   | inl in_range ↦
       let view = hart_view hart machine in
       let legal_hart = legal.harts hart in
-      let after = step_keeps_view_legal view (hart_view_invariant hart machine invariant in_range)
+      let view_legal_after = step_keeps_view_legal view (hart_view_invariant hart machine invariant in_range)
       (record { pc = legal_hart.pc; supervisor = legal_hart.supervisor; contexts = legal.contexts }) in
       let view_legal =
-      subst (λ (stepped : HartViewStepped). ViewIsLegal stepped.state) (sym (step_of_view hart machine in_range)) after in
+      subst (λ (stepped : HartViewStepped). ViewIsLegal stepped.state) (sym (step_of_view hart machine in_range)) view_legal_after in
       record {
         harts = λ other_hart. elim (cases_eq other_hart hart) [
           -- the stepping hart is legal, because the step of its view leaves legal registers
@@ -230,16 +231,16 @@ reset_is_legal entry aligned = record {
 }
 
 -- no slot has a saved context at reset
-no_context : (slot : ℕ) → context_at no_contexts slot ≡ None
-no_context slot = elim (cases_lt slot slot_count) [
+no_context_at_reset : (slot : ℕ) → context_at no_contexts slot ≡ None
+no_context_at_reset slot = elim (cases_lt slot slot_count) [
   | inl in_range ↦ get_or-replicate {A = Option Context} slot_count slot None None in_range
   | inr past_last ↦ get_or_past {X = Option Context} no_contexts slot None past_last
 ]
 
 -- the saved contexts at reset are legal, because there are none
-none_legal : (slot : ℕ) → IfSome (context_at no_contexts slot) (λ context. IsLegal context.supervisor)
-none_legal slot =
-    subst (λ (maybe_context : Option Context). IfSome maybe_context (λ context. IsLegal context.supervisor)) (sym (no_context slot)) tt
+absent_contexts_legal : (slot : ℕ) → IfSome (context_at no_contexts slot) (λ context. IsLegal context.supervisor)
+absent_contexts_legal slot =
+    subst (λ (maybe_context : Option Context). IfSome maybe_context (λ context. IsLegal context.supervisor)) (sym (no_context_at_reset slot)) tt
 
 -- the machine at reset is legal, if the entry point is a multiple of 4
 start_is_legal : (memory : List ℕ) (entry hart_count : ℕ) → aligned_to_4 entry ≡ entry
@@ -251,7 +252,7 @@ start_is_legal memory entry hart_count aligned =
       harts = λ hart.
           start_state_cases hart_count entry hart IsLegalHartState (λ some_hart. record { pc = reset_state.pc; supervisor = reset_state.supervisor })
           (reset_is_legal 0 refl);
-      contexts = none_legal;
+      contexts = absent_contexts_legal;
     }
 
 -- proves that the machine at reset is legal, and that each event leaves a machine legal

@@ -37,7 +37,7 @@ use Rattle.rv_monitor.proofs.Availability.{timer_exits}
 use Rattle.rv_monitor.proofs.Beside.{running_is_live, running_hart_in_range}
 use Rattle.rv_monitor.proofs.EnclaveMemory.{enclave_world_is_not_host, accessible_bytes_are_own, world_is_enclave}
 use Rattle.rv_monitor.proofs.EnclaveStays.{equal_bytes_at_index, bytes_beyond_unchanged}
-use Rattle.rv_monitor.proofs.EnclaveSteps.{enclave_step, exited}
+use Rattle.rv_monitor.proofs.EnclaveSteps.{enclave_step, enclave_has_exited}
 use Rattle.rv_monitor.proofs.Entering.{enter_law}
 use Rattle.rv_monitor.proofs.Events.{event_invariant, line_worlds}
 use Rattle.rv_monitor.proofs.HartCases.{is_trapping, outside, step_of_view}
@@ -73,10 +73,10 @@ record StaysAtPoint (slot : ℕ) (context : Context) (before after : MonitoredMa
       → slice_index after.shared.memory index ≡ slice_index before.shared.memory index
 
 -- a change of a timer line leaves the enclave at its point
-line_stays : (slot hart : ℕ) (raised : Bool) (machine : MonitoredMachine) (context : Context)
+stays_after_line_change : (slot hart : ℕ) (raised : Bool) (machine : MonitoredMachine) (context : Context)
     → ContinuesWith slot context machine
     → is_live machine.shared.table slot ≡ true → StaysAtPoint slot context machine (with_timer hart machine raised)
-line_stays slot hart raised machine context continues live = record {
+stays_after_line_change slot hart raised machine context continues live = record {
   continues = record {
     -- a change of a timer line changes neither the registers nor the saved contexts
     running = λ other_hart runs_on_other.
@@ -88,7 +88,7 @@ line_stays slot hart raised machine context continues live = record {
   live = live;
   identity = refl;
   size = refl;
-  bytes = λ index runs_on_other. refl;
+  bytes = λ index in_region. refl;
 }
 
 -- if the trap handler reports an entry of the slot, then the host ran before the trap, and the enclave runs after the trap handler
@@ -147,9 +147,9 @@ module _ (slot hart : ℕ) (machine : MonitoredMachine) (context : Context) (inv
   invariant_after = invariant_law hart machine invariant
 
   -- a step of another world that does not enter the enclave leaves the enclave at its point
-  undisturbed_stays : runs_on slot hart machine ≡ false → enters slot (step_of hart machine).outcome.entered ≡ false
+  stays_if_undisturbed : runs_on slot hart machine ≡ false → enters slot (step_of hart machine).outcome.entered ≡ false
       → StaysAtPoint slot context machine (step_of hart machine).state
-  undisturbed_stays not_running not_entered =
+  stays_if_undisturbed not_running not_entered =
       -- by integrity, the step preserves an enclave that is not the running world and is neither entered nor destroyed
       let preserved = integrity hart machine invariant slot not_running live not_entered live_after in
       let same_length = same_size hart machine in
@@ -180,22 +180,23 @@ module _ (slot hart : ℕ) (machine : MonitoredMachine) (context : Context) (inv
       }
 
   -- a step that enters the enclave leaves the enclave at its point
-  entered_stays : enters slot (step_of hart machine).outcome.entered ≡ true
+  stays_after_entry : enters slot (step_of hart machine).outcome.entered ≡ true
       → StaysAtPoint slot context machine (step_of hart machine).state
-  entered_stays enters_slot =
+  stays_after_entry enters_slot =
       -- the hart runs the host before the step, and the enclave after it
       let (host_before, enclave_after) =
       worlds_around_entry slot hart machine (entered_some slot (step_of hart machine).outcome.entered enters_slot) in
       -- the step is an entry by a call, which restores the saved context of the slot
       let entry = enter_law hart machine invariant slot host_before enclave_after in
-      let saved = entry.call.kept in
+      let saved_before = entry.call.kept in
       let saved_context = entry.call.context in
       let saved_contexts_equal : Some saved_context ≡ Some context =
-      sym saved ∙ continues.resting (saved_enclave_not_running slot machine saved_context invariant saved) in
+      sym saved_before ∙ continues.resting (saved_enclave_not_running slot machine saved_context invariant saved_before) in
       let contexts_equal : saved_context ≡ context = cc in
       -- a legal context has the same S-mode registers after the monitor restores it
       let context_is_legal : IsLegal saved_context.supervisor =
-      subst (λ (maybe_context : Option Context). IfSome maybe_context (λ context. IsLegal context.supervisor)) saved (legal_machine.contexts slot) in
+      subst (λ (maybe_context : Option Context). IfSome maybe_context (λ context. IsLegal context.supervisor)) saved_before
+      (legal_machine.contexts slot) in
       let table_after = slots_with_state machine.shared.table slot Running in
       let in_range = (is_trapping hart machine entry.trap entry.trapped).has in
       let same_length = length-map machine.hart_states (reprogrammed table_after) in
@@ -241,13 +242,14 @@ module _ (slot hart : ℕ) (machine : MonitoredMachine) (context : Context) (inv
   )
 
   -- a timer interrupt leaves the enclave at its point: its saved context is the context with which it would have continued
-  interrupted_stays : runs_on slot hart machine ≡ true → (hart_state_of hart machine).hart.csrs.timer ≡ true
+  stays_after_interrupt : runs_on slot hart machine ≡ true → (hart_state_of hart machine).hart.csrs.timer ≡ true
       → StaysAtPoint slot context machine (step_of hart machine).state
-  interrupted_stays runs_on_hart timer_set =
+  stays_after_interrupt runs_on_hart timer_set =
       -- the interrupt exits to the host, and saves the context of the enclave
       let (_, exit) = timer_exit (hart_state_of hart machine).host_context refl runs_on_hart timer_set in
       let has_exited =
-      exited (at slot hart) machine timer_trap invariant runs_on_hart exit.trapped exit.world (hart_state_of hart machine).host_context refl in
+      enclave_has_exited (at slot hart) machine timer_trap invariant runs_on_hart exit.trapped exit.world
+      (hart_state_of hart machine).host_context refl in
       -- the saved pc is the pc of the hart, because this pc is a multiple of 4
       let saved_context_is : saved_after timer_trap.cause (hart_state_of hart machine).hart ≡ continuation (hart_state_of hart machine).hart =
       ap (λ (pc : ℕ). record (continuation (hart_state_of hart machine).hart) { pc = pc }) (legal_machine.harts hart).pc in
@@ -262,29 +264,31 @@ module _ (slot hart : ℕ) (machine : MonitoredMachine) (context : Context) (inv
       }
 
   -- a foreign step leaves the enclave at its point
-  step_stays : (runs_on slot hart machine ≡ false) ⊎ ((hart_state_of hart machine).hart.csrs.timer ≡ true)
+  stays_after_foreign_step : (runs_on slot hart machine ≡ false) ⊎ ((hart_state_of hart machine).hart.csrs.timer ≡ true)
       → StaysAtPoint slot context machine (step_of hart machine).state
-  step_stays foreign = elim (cases_Bool (runs_on slot hart machine)) [
+  stays_after_foreign_step foreign = elim (cases_Bool (runs_on slot hart machine)) [
     -- if the hart runs the enclave, then the timer interrupt takes the enclave off the hart
-    | inl runs_on_hart ↦
-        elim foreign [ inl not_running ↦ absurd (both_ways _ not_running runs_on_hart) | inr line ↦ interrupted_stays runs_on_hart line ]
+    | inl runs_on_hart ↦ elim foreign [
+      | inl not_running ↦ absurd (both_ways _ not_running runs_on_hart)
+      | inr timer_line_is_set ↦ stays_after_interrupt runs_on_hart timer_line_is_set
+    ]
     -- a step of another world enters the enclave, or leaves the enclave undisturbed
     | inr not_running ↦ elim (cases_Bool (enters slot (step_of hart machine).outcome.entered)) [
-      | inl entered ↦ entered_stays entered
-      | inr not_entered ↦ undisturbed_stays not_running not_entered
+      | inl entered ↦ stays_after_entry entered
+      | inr not_entered ↦ stays_if_undisturbed not_running not_entered
     ]
   ]
 
 -- a foreign event leaves the enclave at its point
-foreign_stays : (slot : ℕ) (event : Event) (machine : MonitoredMachine) (context : Context)
+stays_after_foreign_event : (slot : ℕ) (event : Event) (machine : MonitoredMachine) (context : Context)
     → Invariant machine → IsLegalMachine machine
     → ContinuesWith slot context machine
     → is_live machine.shared.table slot ≡ true → IsForeign slot event machine
     → StaysAtPoint slot context machine (event_of event machine).state
-foreign_stays slot (StepOf hart) machine context invariant legal continues live (idle_or_interrupted, live_after) =
-    step_stays slot hart machine context invariant continues live live_after legal idle_or_interrupted
-foreign_stays slot (LineOf hart raised) machine context invariant legal continues live foreign =
-    line_stays slot hart raised machine context continues live
+stays_after_foreign_event slot (StepOf hart) machine context invariant legal continues live (idle_or_interrupted, live_after) =
+    stays_after_foreign_step slot hart machine context invariant continues live live_after legal idle_or_interrupted
+stays_after_foreign_event slot (LineOf hart raised) machine context invariant legal continues live foreign =
+    stays_after_line_change slot hart raised machine context continues live
 
 -- a foreign event of the first machine leaves both enclaves at one point
 foreign_event_keeps_point : (slot other_slot : ℕ) (event : Event) (one other : MonitoredMachine)
@@ -294,21 +298,21 @@ foreign_event_keeps_point : (slot other_slot : ℕ) (event : Event) (one other :
     → AreAtOnePoint slot other_slot (event_of event one).state other
 foreign_event_keeps_point slot other_slot event one other invariant_one legal point foreign =
     -- the event leaves the first enclave at its point
-    let stays_alike = foreign_stays slot event one point.context invariant_one legal point.first point.live foreign in
+    let stays_at_point = stays_after_foreign_event slot event one point.context invariant_one legal point.first point.live foreign in
     let table_after = (event_of event one).state.shared.table in
-    let block = same_region table_after one.shared.table slot slot stays_alike.identity in
+    let region_unchanged = same_region table_after one.shared.table slot slot stays_at_point.identity in
     record {
       context = point.context;
-      first = stays_alike.continues;
+      first = stays_at_point.continues;
       second = point.second;
-      live = stays_alike.live;
-      identity = stays_alike.identity ∙ point.identity;
+      live = stays_at_point.live;
+      identity = stays_at_point.identity ∙ point.identity;
       -- the region of the first enclave keeps its bytes, which are those of the second enclave
       memory = record {
-        size = stays_alike.size ∙ point.memory.size;
+        size = stays_at_point.size ∙ point.memory.size;
         bytes = λ index outside_region.
-            let before = ap (λ (block : Block). not (has block (ram_base + index))) (sym block) ∙ outside_region in
-            stays_alike.bytes index (not-false _ before) ∙ point.memory.bytes index before;
+            let outside_before = ap (λ (block : Block). not (has block (ram_base + index))) (sym region_unchanged) ∙ outside_region in
+            stays_at_point.bytes index (not-false _ outside_before) ∙ point.memory.bytes index outside_before;
       };
     }
 
@@ -316,7 +320,7 @@ foreign_event_keeps_point slot other_slot event one other invariant_one legal po
 swapped : (slot other_slot : ℕ) (one other : MonitoredMachine) → AreAtOnePoint slot other_slot one other
     → AreAtOnePoint other_slot slot other one
 swapped slot other_slot one other point =
-    let block = same_region one.shared.table other.shared.table slot other_slot point.identity in
+    let regions_equal = same_region one.shared.table other.shared.table slot other_slot point.identity in
     record {
       context = point.context;
       first = point.second;
@@ -328,7 +332,7 @@ swapped slot other_slot one other point =
         size = sym point.memory.size;
         bytes =
             λ index outside_region. sym (point.memory.bytes index
-            (ap (λ (block : Block). not (has block (ram_base + index))) block ∙ outside_region));
+            (ap (λ (block : Block). not (has block (ram_base + index))) regions_equal ∙ outside_region));
       };
     }
 
@@ -459,8 +463,8 @@ module _ (place other_place : Place) (one other : MonitoredMachine) (invariant_o
   ]
 
   -- the step reads no byte in which the memories of both machines differ
-  reads : ReadsSeen (differs one.shared.memory other.shared.memory) (step_at other_place mixed).outcome.step.touched
-  reads index byte_is_read =
+  step_reads_seen : ReadsSeen (differs one.shared.memory other.shared.memory) (step_at other_place mixed).outcome.step.touched
+  step_reads_seen index byte_is_read =
       let touched =
       ap (λ (outcome : Outcome). reads_byte outcome.step.touched (ram_base + index)) same_own_step.outcome in
       same_does_not_differ one.shared.memory other.shared.memory index (read_bytes_equal index (touched ∙ byte_is_read))
@@ -475,7 +479,7 @@ module _ (place other_place : Place) (one other : MonitoredMachine) (invariant_o
   same_over_memory : MachineOver one.shared.memory other.shared.memory (step_at other_place mixed) (step_at other_place other)
   same_over_memory =
       machine_over (differs one.shared.memory other.shared.memory) other_place.hart mixed other.shared.memory
-      (equal_outside_differing one.shared.memory other.shared.memory point.memory.size) reads measures_seen
+      (equal_outside_differing one.shared.memory other.shared.memory point.memory.size) step_reads_seen measures_seen
 
   -- the first machine after the step
   abbrev after_one : MonitoredMachine
@@ -684,32 +688,32 @@ life_begins slot other_slot one other invariant_one invariant_other same_identit
     let memory = one.shared.memory in
     let other_memory = other.shared.memory in
     -- equal measured bytes give equal create arguments and equal bytes in the region
-    let measured =
+    let measured_parts_equal =
     measurement_law memory other_memory first_enclave.info second_enclave.info invariant_one.shared.valid.ram same_length
     (record_is_valid slot one invariant_one first_enclave)
     (record_is_valid other_slot other invariant_other second_enclave) same_identity.input in
     -- equal measured bytes give equal digests
-    let digest : first_enclave.info.measurement ≡ second_enclave.info.measurement =
+    let digests_equal : first_enclave.info.measurement ≡ second_enclave.info.measurement =
     first_enclave.measurement ∙ same_digest memory other_memory (args_of first_enclave.info) (args_of second_enclave.info) same_identity.input
     ∙ sym second_enclave.measurement in
     -- both records are equal, because both enclaves are Fresh
     let same_info_record =
-    equal_fresh_records first_enclave.info second_enclave.info measured.args digest first_enclave.fresh second_enclave.fresh in
+    equal_fresh_records first_enclave.info second_enclave.info measured_parts_equal.args digests_equal first_enclave.fresh second_enclave.fresh in
     let some_info : SlotInfo → Option SlotInfo = λ info. Some info in
-    let begin : SlotInfo → Option Context = λ info. Some (first_context info) in
+    let some_first_context : SlotInfo → Option Context = λ info. Some (first_context info) in
     record {
       context = first_context first_enclave.info;
       first = saved_continues slot one (first_context first_enclave.info) invariant_one first_enclave.context;
       second =
           saved_continues other_slot other (first_context first_enclave.info) invariant_other
-          (second_enclave.context ∙ ap begin (sym same_info_record));
+          (second_enclave.context ∙ ap some_first_context (sym same_info_record));
       live = ap (λ (maybe_info : Option SlotInfo). is_some maybe_info) first_enclave.is;
       identity = ap (option_map identity_of) (first_enclave.is ∙ ap some_info same_info_record ∙ sym second_enclave.is);
       memory = record {
         size = same_length;
         -- a byte in the region was measured, so both machines have the same byte there
         bytes = λ index outside_region.
-            measured.bytes.bytes index (ap (λ (maybe_info : Option SlotInfo). not (has (region_of maybe_info) (ram_base + index)))
+            measured_parts_equal.bytes.bytes index (ap (λ (maybe_info : Option SlotInfo). not (has (region_of maybe_info) (ram_base + index)))
             (sym first_enclave.is)
             ∙ outside_region);
       };

@@ -36,15 +36,15 @@ apart_in_front (first ∷ rest) (suc index) world in_range (first_apart, tail_ap
     let in_tail : index < length rest = omega (arith, in_range) in
     let (world_apart_from_rest, rest_apart) = apart_in_front rest index world in_tail tail_apart in
     -- no other world runs an enclave that the first world runs
-    let prefix_facts : (slot : ℕ) → is_world_of slot first ≡ true
+    let others_run_other : (slot : ℕ) → is_world_of slot first ≡ true
     → (is_world_of slot world ≡ false) × (list_any (is_world_of slot) (without rest index) ≡ false) =
     λ slot first_runs. or_parts _ _ (sym (any_with_world_in_front (is_world_of slot) rest index world in_tail) ∙ first_apart slot first_runs) in (
       λ slot first_runs. elim (cases_Bool (is_world_of slot first)) [
         -- two worlds that are apart do not run the same enclave
-        | inl runs_enclave ↦ let (world_runs_other, _) = prefix_facts slot runs_enclave in absurd (both_ways _ world_runs_other first_runs)
+        | inl runs_enclave ↦ let (world_runs_other, _) = others_run_other slot runs_enclave in absurd (both_ways _ world_runs_other first_runs)
         | inr world_runs_other ↦ or_from (is_world_of slot first) _ world_runs_other (world_apart_from_rest slot first_runs)
       ],
-      ((λ slot first_runs. let (_, rest_runs_other) = prefix_facts slot first_runs in rest_runs_other), rest_apart),
+      ((λ slot first_runs. let (_, rest_runs_other) = others_run_other slot first_runs in rest_runs_other), rest_apart),
     )
 
 -- worlds that are apart stay apart if the first world moves to the index

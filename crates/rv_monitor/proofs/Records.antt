@@ -47,21 +47,21 @@ new_state_keeps_identities table slot other_slot state table_length = elim (case
 module _ (slot : ℕ) (hart_state : HartState) (shared : Shared) (valid : IsValid shared.memory shared.table)
     (live : is_live shared.table slot ≡ true) where
   -- a create leaves the identity of the live `slot` unchanged
-  created_keeps : (new : CreateArgs) → MayCreate shared new
+  create_keeps_identity : (new : CreateArgs) → MayCreate shared new
       → identity_at (created shared new).table slot ≡ identity_at shared.table slot
   unfolding created
-  created_keeps new no_refusal =
+  create_keeps_identity new no_refusal =
       let free = (free_slot_from shared.table (new_slot shared.table) no_refusal.free).free in
       let distinct : slot ≢ new_slot shared.table =
       λ slots_equal. both_ways _ (ap (λ (maybe_info : Option SlotInfo). is_some maybe_info) free) (rw (← slots_equal) live) in
       ap (option_map identity_of) (at_other_slot shared.table (new_slot shared.table) slot (Some (recorded shared.memory new)) distinct)
 
   -- a destroy after which `slot` is live leaves the identity of `slot` unchanged
-  destroyed_keeps : (other_slot : ℕ) → SlotIsAccepted shared.table Destroy other_slot
+  destroy_keeps_identity : (other_slot : ℕ) → SlotIsAccepted shared.table Destroy other_slot
       → is_live (destroyed shared other_slot).table slot ≡ true
       → identity_at (destroyed shared other_slot).table slot ≡ identity_at shared.table slot
   unfolding destroyed
-  destroyed_keeps other_slot slot_accepted live_after = elim (cases_eq slot other_slot) [
+  destroy_keeps_identity other_slot slot_accepted live_after = elim (cases_eq slot other_slot) [
     -- the destroyed slot is not live after the destroy
     | inl slots_equal ↦
         let slot_in_range = live_in_range shared.table other_slot slot_accepted.info valid.count slot_accepted.is in
@@ -73,18 +73,18 @@ module _ (slot : ℕ) (hart_state : HartState) (shared : Shared) (valid : IsVali
   ]
 
   -- if `slot` is live after the trap handler, then its identity is unchanged
-  abbrev Keeps : Handled → Type 0
-  Keeps result =
+  abbrev KeepsIdentityIfLive : Handled → Type 0
+  KeepsIdentityIfLive result =
       is_live result.shared.table slot ≡ true → identity_at result.shared.table slot ≡ identity_at shared.table slot
 
-  -- the trap handler satisfies `Keeps`
-  handled_keeps : (trap : Trap) → Keeps (handled hart_state shared trap)
+  -- the trap handler satisfies `KeepsIdentityIfLive`
+  handler_keeps_identity : (trap : Trap) → KeepsIdentityIfLive (handled hart_state shared trap)
   unfolding measured entered_slot left
   -- no case changes the region, the window, the entry or the measurement of an enclave that stays live
-  handled_keeps trap = handler_cases hart_state trap shared Keeps (record {
+  handler_keeps_identity trap = handler_cases hart_state trap shared KeepsIdentityIfLive (record {
     answers = λ status result live_after. refl;
-    creates = λ requests no_refusal live_after. created_keeps (create_args_of hart_state.hart.regs) no_refusal;
-    destroys = λ requests slot_accepted live_after. destroyed_keeps (a0 hart_state) slot_accepted live_after;
+    creates = λ requests no_refusal live_after. create_keeps_identity (create_args_of hart_state.hart.regs) no_refusal;
+    destroys = λ requests slot_accepted live_after. destroy_keeps_identity (a0 hart_state) slot_accepted live_after;
     measures = λ requests no_refusal live_after. refl;
     enters =
         λ call requests is_entry_call from_host slot_accepted live_after. new_state_keeps_identities shared.table slot
@@ -108,4 +108,4 @@ record_law hart machine invariant slot live =
     step_cases view (λ after. is_live after.state.shared.table slot ≡ true
     → identity_at after.state.shared.table slot ≡ identity_at view.shared.table slot)
     (λ no_trap live_after. refl)
-    (λ trap trapped. handled_keeps slot (hart_state_after view.hart_state trap) view.shared view_invariant.valid live trap))
+    (λ trap trapped. handler_keeps_identity slot (hart_state_after view.hart_state trap) view.shared view_invariant.valid live trap))

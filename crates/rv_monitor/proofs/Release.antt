@@ -22,13 +22,15 @@ use Rattle.rv_enclaves.specs.SlotNumbers.{slot_count}
 same_state : (cause : Cause) (one other : Hart) → SameHandoverBy cause one other
     → enclave_state_after cause one.regs ≡ enclave_state_after cause other.regs
 same_state (causes.Interrupt interrupt) one other same_handover = refl
-same_state (causes.Exception exception) one other same_handover = let a6 = same_handover.a6 in rw a6 refl
+-- the number of the call in a6 is equal on both harts
+same_state (causes.Exception exception) one other same_handover = let same_a6 = same_handover.a6 in rw same_a6 refl
 
 -- two exits that hand over the same give the host the same reason
 same_reason : (cause : Cause) (one other : Hart) → SameHandoverBy cause one other
     → reason cause one.regs ≡ reason cause other.regs
 same_reason (causes.Interrupt interrupt) one other same_handover = refl
-same_reason (causes.Exception exception) one other same_handover = let a6 = same_handover.a6 in rw a6 refl
+-- the number of the call in a6 is equal on both harts
+same_reason (causes.Exception exception) one other same_handover = let same_a6 = same_handover.a6 in rw same_a6 refl
 
 -- two exits that hand over the same give the host the same value
 same_value : (cause : Cause) (one other : Hart) → SameHandoverBy cause one other
@@ -155,7 +157,7 @@ module _ (enclave hart : ℕ) (one other : MonitoredMachine) (trap : Trap) (host
   machines_equiv_after_exit : EquivExcept enclave (left_machine hart one enclave trap host) (left_machine hart other enclave trap host)
   machines_equiv_after_exit =
       let first_length = length-map one.hart_states (reprogrammed first_table) in
-      let extent =
+      let extent_unchanged =
       new_state_keeps_extent one.shared.table enclave (slot_at one.shared.table enclave) state_after table_length refl in
       let first_contexts = one.shared.contexts in
       let second_contexts = other.shared.contexts in
@@ -180,7 +182,7 @@ module _ (enclave hart : ℕ) (one other : MonitoredMachine) (trap : Trap) (host
             -- the exit keeps the region of `enclave`, in which alone the memories may differ
             bytes =
                 λ index not_hidden. equiv.shared.memory.bytes index
-                (ap (λ (block : Block). has block (ram_base + index)) (sym extent.region) ∙ not_hidden);
+                (ap (λ (block : Block). has block (ram_base + index)) (sym extent_unchanged.region) ∙ not_hidden);
           };
           -- the exit saves a context only for `enclave`, so the other saved contexts stay equal
           contexts = record {

@@ -127,12 +127,14 @@ enclave_step_keeps_host view enclave_runs =
 -- a legal context has the same S-mode registers after the monitor restores and saves it
 pub restored_context_same : (csrs : CsrState) (supervisor : SContext) → IsLegal supervisor
     → s_context (with_s_context csrs supervisor) ≡ supervisor
-restored_context_same csrs supervisor legal = let stvec = legal.stvec in let sepc = legal.sepc in rw (stvec, sepc) refl
+-- a restore makes stvec and sepc legal, so both are unchanged if they are legal already
+restored_context_same csrs supervisor legal =
+    let stvec_unchanged = legal.stvec in let sepc_unchanged = legal.sepc in rw (stvec_unchanged, sepc_unchanged) refl
 
 -- the pc of a context with which a hart can continue is unchanged if it is rounded down to a multiple of 4
 pub pc_is_aligned : (mode : Mode) (pc : ℕ) → (not (is_machine mode) && pc % 4 == 0) ≡ true → aligned_to_4 pc ≡ pc
 pc_is_aligned mode pc can_continue =
-    let is_multiple_test : (pc % 4 == 0) ≡ true = (and_parts (not (is_machine mode)) (pc % 4 == 0) can_continue).1 in
+    let (_, is_multiple_test) = and_parts (not (is_machine mode)) (pc % 4 == 0) can_continue in
     let multiple : pc % 4 ≡ 0 = grind (arith, nat_tests) in
     omega arith
 
