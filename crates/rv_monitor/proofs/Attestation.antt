@@ -94,11 +94,11 @@ module _ (slot : ℕ) (shared : Shared) (valid : IsValid shared.memory shared.ta
   unfolding created
   create_gives_as_created new no_refusal live_after = elim (cases_eq slot (new_slot shared.table)) [
     -- the slot is the one that create filled: each field of the new record is the value that create wrote
-    | inl equal ↦
+    | inl slots_equal ↦
         let free = free_slot_from shared.table (new_slot shared.table) no_refusal.free in
         let slot_in_range = free.in_range in
         let info = recorded shared.memory new in
-        rw equal (record {
+        rw slots_equal (record {
           info = info;
           is =
               at_written_slot shared.table (new_slot shared.table) (Some info) (omega (arith, slot_in_range, valid.count));

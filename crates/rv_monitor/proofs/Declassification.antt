@@ -86,12 +86,12 @@ relation_law = record {
 -- ---- a step of the enclave in one machine
 
 -- while the enclave runs, a byte that passes the test `may_differ` with false is outside the region and the window
-shown_is_beyond : (in_region runs_now in_window : Bool) → runs_now ≡ true → (in_region || (runs_now && in_window)) ≡ false
+byte_is_beyond : (in_region runs_now in_window : Bool) → runs_now ≡ true → (in_region || (runs_now && in_window)) ≡ false
     → not (in_region || in_window) ≡ true
-shown_is_beyond false true false running shown = refl
-shown_is_beyond false true true running shown = cc
-shown_is_beyond true runs_now in_window running shown = cc
-shown_is_beyond in_region false in_window running shown = cc
+byte_is_beyond false true false running shown = refl
+byte_is_beyond false true true running shown = cc
+byte_is_beyond true runs_now in_window running shown = cc
+byte_is_beyond in_region false in_window running shown = cc
 
 -- two machines are related, and `enclave` makes a step in the first machine that does not exit
 module _ (enclave hart : ℕ) (one other : MonitoredMachine) (invariant_one : Invariant one) (related : AreRelated enclave one other)
@@ -103,9 +103,9 @@ module _ (enclave hart : ℕ) (one other : MonitoredMachine) (invariant_one : In
   -- a step of the enclave that does not exit leaves the two machines related
   enclave_step_keeps_relation : AreRelated enclave after other
   enclave_step_keeps_relation =
-      let unchanged = enclave_step_unchanged enclave hart one invariant_one inside.before inside.after in
+      let unchanged_parts = enclave_step_unchanged enclave hart one invariant_one inside.before inside.after in
       record {
-        harts = sym unchanged.harts ∙ related.harts;
+        harts = sym unchanged_parts.harts ∙ related.harts;
         -- the hart of the enclave runs `enclave` before and after the step, and the other harts keep their states
         hart_states = λ other_hart. elim (cases_eq other_hart hart) [
           | inl is_stepping_hart ↦ rw is_stepping_hart (record {
@@ -120,7 +120,7 @@ module _ (enclave hart : ℕ) (one other : MonitoredMachine) (invariant_one : In
           | inr is_other_hart ↦
               hart_states_equiv enclave (guest_state (hart_state_of other_hart after)) (guest_state (hart_state_of other_hart one))
               (guest_state (hart_state_of other_hart other))
-              (guest_state (hart_state_of other_hart other)) (ap guest_state (sym (unchanged.others other_hart is_other_hart))) refl
+              (guest_state (hart_state_of other_hart other)) (ap guest_state (sym (unchanged_parts.others other_hart is_other_hart))) refl
               (related.hart_states other_hart)
         ];
         -- the saved hosts of all harts are unchanged
@@ -128,38 +128,42 @@ module _ (enclave hart : ℕ) (one other : MonitoredMachine) (invariant_one : In
           -- the stepping hart keeps the saved host
           | inl is_stepping_hart ↦
               let same_hosts = related.hosts hart inside.before in
-              rw is_stepping_hart (record { host = sym unchanged.behind.host ∙ same_hosts.host; rest = sym unchanged.behind.rest ∙ same_hosts.rest })
+              rw is_stepping_hart (record {
+                host = sym unchanged_parts.behind.host ∙ same_hosts.host;
+                rest = sym unchanged_parts.behind.rest ∙ same_hosts.rest;
+              })
           -- every other hart keeps its state
           | inr is_other_hart ↦
               let same_hosts =
               related.hosts other_hart
-              (ap (λ (hart_state : HartState). is_world_of enclave hart_state.world) (unchanged.others other_hart is_other_hart)
+              (ap (λ (hart_state : HartState). is_world_of enclave hart_state.world) (unchanged_parts.others other_hart is_other_hart)
               ∙ runs_on_other) in
               record {
                 host =
-                    ap (λ (hart_state : HartState). hart_state.host_context) (sym (unchanged.others other_hart is_other_hart)) ∙ same_hosts.host;
-                rest = ap rest_of (sym (unchanged.others other_hart is_other_hart)) ∙ same_hosts.rest;
+                    ap (λ (hart_state : HartState). hart_state.host_context) (sym (unchanged_parts.others other_hart is_other_hart))
+                    ∙ same_hosts.host;
+                rest = ap rest_of (sym (unchanged_parts.others other_hart is_other_hart)) ∙ same_hosts.rest;
               }
         ];
-        table = sym unchanged.table ∙ related.table;
+        table = sym unchanged_parts.table ∙ related.table;
         memory = record {
-          size = sym unchanged.size ∙ related.memory.size;
+          size = sym unchanged_parts.size ∙ related.memory.size;
           -- a byte in which the machines may not differ is beyond the enclave, so the step does not change this byte
           bytes = λ index not_hidden.
-              let shown_before =
-              ap (λ (table : Slots). may_differ table enclave (ram_base + index)) unchanged.table ∙ not_hidden in
+              let may_not_differ_before =
+              ap (λ (table : Slots). may_differ table enclave (ram_base + index)) unchanged_parts.table ∙ not_hidden in
               let running = invariant_one.shared.running enclave ∙ runs_among enclave hart one inside.before in
               let is_beyond_enclave =
-              shown_is_beyond (has (region one.shared.table enclave) (ram_base + index)) (runs one.shared.table enclave)
-              (has (window one.shared.table enclave) (ram_base + index)) running shown_before in
-              sym (equal_bytes_at_index one.shared.memory after.shared.memory index unchanged.size
-              (unchanged.bytes (ram_base + index) is_beyond_enclave))
-              ∙ related.memory.bytes index shown_before;
+              byte_is_beyond (has (region one.shared.table enclave) (ram_base + index)) (runs one.shared.table enclave)
+              (has (window one.shared.table enclave) (ram_base + index)) running may_not_differ_before in
+              sym (equal_bytes_at_index one.shared.memory after.shared.memory index unchanged_parts.size
+              (unchanged_parts.bytes (ram_base + index) is_beyond_enclave))
+              ∙ related.memory.bytes index may_not_differ_before;
         };
         contexts = record {
-          size = ap (λ (contexts : Contexts). length contexts) (sym unchanged.contexts) ∙ related.contexts.size;
+          size = ap (λ (contexts : Contexts). length contexts) (sym unchanged_parts.contexts) ∙ related.contexts.size;
           others =
-              λ slot distinct. ap (λ (contexts : Contexts). context_at contexts slot) (sym unchanged.contexts)
+              λ slot distinct. ap (λ (contexts : Contexts). context_at contexts slot) (sym unchanged_parts.contexts)
               ∙ related.contexts.others slot distinct;
         };
         gone =
@@ -247,25 +251,25 @@ module _ (enclave hart : ℕ) (one other : MonitoredMachine) (invariant_one : In
     equiv_related enclave (step_of hart one).state (step_of hart other).state (exit_equiv exits_alike)
         (λ other_hart runs_after. elim (cases_eq other_hart hart) [
           -- the stepping hart runs the host after the step, so this hart does not run `enclave`
-          | inl equal ↦
+          | inl is_stepping_hart ↦
               let not_running : runs_on enclave hart (step_of hart one).state ≡ false =
               ap (is_world_of enclave) exits_alike.first_exits in
-              let still_runs : runs_on enclave hart (step_of hart one).state ≡ true =
-              ap (λ (some_hart : ℕ). runs_on enclave some_hart (step_of hart one).state) (sym equal) ∙ runs_after in
-              absurd (both_ways _ not_running still_runs)
+              let enclave_still_runs : runs_on enclave hart (step_of hart one).state ≡ true =
+              ap (λ (some_hart : ℕ). runs_on enclave some_hart (step_of hart one).state) (sym is_stepping_hart) ∙ runs_after in
+              absurd (both_ways _ not_running enclave_still_runs)
           -- another hart keeps its saved host in both machines
-          | inr distinct ↦
+          | inr is_other_hart ↦
               same_host_chain other_hart (step_of hart one).state one other (step_of hart other).state
-              (other_harts_keep_host hart other_hart one distinct)
-              (related.hosts other_hart (ran_before enclave hart other_hart one distinct runs_after))
-              (other_harts_keep_host hart other_hart other distinct)
+              (other_harts_keep_host hart other_hart one is_other_hart)
+              (related.hosts other_hart (ran_before enclave hart other_hart one is_other_hart runs_after))
+              (other_harts_keep_host hart other_hart other is_other_hart)
         ]),
   )
 
   -- a step of both machines leaves the machines related, because the step is a low step or an exit that hands over equal registers
   step_of_both_keeps_relation : IsLowStep enclave hart one other ⊎ ExitsAlike enclave hart one other → Outcomes × Related
-  step_of_both_keeps_relation (inl alike_step) = low_step alike_step
-  step_of_both_keeps_relation (inr alike_step) = exit_keeps_relation alike_step
+  step_of_both_keeps_relation (inl is_low_step) = low_step is_low_step
+  step_of_both_keeps_relation (inr exits_alike) = exit_keeps_relation exits_alike
 
 -- ---- all moves
 

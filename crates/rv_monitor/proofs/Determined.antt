@@ -25,16 +25,16 @@ results_equal : (stepped other_stepped : MonitoredStepped) → stepped.state ≡
     → stepped.outcome.entered ≡ other_stepped.outcome.entered → stepped ≡ other_stepped
 results_equal stepped other_stepped same_state same_step same_entered =
     -- the three parts are replaced one after the other
-    let with_state : stepped ≡ record { state = other_stepped.state; outcome = stepped.outcome } =
+    let states_replaced : stepped ≡ record { state = other_stepped.state; outcome = stepped.outcome } =
     ap (λ (machine : MonitoredMachine). let after : MonitoredStepped = record { state = machine; outcome = stepped.outcome } in after) same_state in
-    let with_step : stepped.outcome ≡ record { step = other_stepped.outcome.step; entered = stepped.outcome.entered } =
+    let step_outcomes_replaced : stepped.outcome ≡ record { step = other_stepped.outcome.step; entered = stepped.outcome.entered } =
     ap (λ (outcome : StepOutcome). let monitored : Outcome = record { step = outcome; entered = stepped.outcome.entered } in monitored) same_step in
     let same_outcome : stepped.outcome ≡ other_stepped.outcome =
-    with_step ∙ ap (λ (entered_slot : Option ℕ). let monitored : Outcome = record {
+    step_outcomes_replaced ∙ ap (λ (entered_slot : Option ℕ). let monitored : Outcome = record {
       step = other_stepped.outcome.step;
       entered = entered_slot;
     } in monitored) same_entered in
-    with_state ∙ ap (λ (monitored : Outcome). let after : MonitoredStepped = record {
+    states_replaced ∙ ap (λ (monitored : Outcome). let after : MonitoredStepped = record {
       state = other_stepped.state;
       outcome = monitored;
     } in after) same_outcome
@@ -113,8 +113,8 @@ module _ (hart : ℕ) (machine : MonitoredMachine) (invariant : Invariant machin
     -- the trap is an ecall from S, and both results have the answer in numbers
     module _ (first_answers : AnswersInNumbers hart machine stepped trap) (second_answers : AnswersInNumbers hart machine other_stepped trap) where
       -- a call that `call_at` finds is offered to the running world
-      offered : (call : Call) → call_at hart machine ≡ Some call → is_offered hart_state.world call ≡ true
-      offered call requested =
+      found_call_is_offered : (call : Call) → call_at hart machine ≡ Some call → is_offered hart_state.world call ≡ true
+      found_call_is_offered call requested =
           let (_, call_is_offered) =
           requested-is_offered hart_state.world hart_state.hart.regs call (numbered_call_is_requested hart_state machine.shared call requested) in
           call_is_offered
@@ -135,7 +135,7 @@ module _ (hart : ℕ) (machine : MonitoredMachine) (invariant : Invariant machin
       same_by_stop : (world : World) → hart_state.world ≡ world → call_at hart machine ≡ Some Stop → SameResult
       same_by_stop Host host requested =
           let contradiction : true ≡ false =
-          sym (offered Stop requested) ∙ ap (λ (world : World). is_offered world Stop) host in
+          sym (found_call_is_offered Stop requested) ∙ ap (λ (world : World). is_offered world Stop) host in
           cc
       same_by_stop (Enclave slot) world_is requested =
           with_saved_host slot SameResult world_is
@@ -146,7 +146,7 @@ module _ (hart : ℕ) (machine : MonitoredMachine) (invariant : Invariant machin
       same_by_exit : (world : World) → hart_state.world ≡ world → call_at hart machine ≡ Some Exit → SameResult
       same_by_exit Host world_is requested =
           let contradiction : true ≡ false =
-          sym (offered Exit requested) ∙ ap (λ (world : World). is_offered world Exit) world_is in
+          sym (found_call_is_offered Exit requested) ∙ ap (λ (world : World). is_offered world Exit) world_is in
           cc
       same_by_exit (Enclave slot) world_is requested =
           with_saved_host slot SameResult world_is
@@ -154,16 +154,16 @@ module _ (hart : ℕ) (machine : MonitoredMachine) (invariant : Invariant machin
           (second_answers.exits slot host world_is host_is_saved requested))
 
       -- a call that the monitor does not offer to the running world has the status of an unknown call
-      no_call : call_at hart machine ≡ None → status_at hart machine ≡ 0xFFFFFFFF
+      unknown_call_status : call_at hart machine ≡ None → status_at hart machine ≡ 0xFFFFFFFF
       unfolding call_status
-      no_call requested = rw requested refl
+      unknown_call_status requested = rw requested refl
 
       -- two results of a call with status 0 are equal
       same_by_call : (maybe_call : Option Call) → call_at hart machine ≡ maybe_call
           → status_at hart machine ≡ 0 → SameResult
       -- an unknown call has a status other than 0
       same_by_call None requested status_is_0 =
-          absurd (unknown_status_not_zero (status_at hart machine) (no_call requested) status_is_0)
+          absurd (unknown_status_not_zero (status_at hart machine) (unknown_call_status requested) status_is_0)
       -- the answers of create, destroy and measure give the state after the call
       same_by_call (Some Create) requested status_is_0 =
           same_if_given (first_answers.creates requested status_is_0) (second_answers.creates requested status_is_0)
@@ -173,10 +173,11 @@ module _ (hart : ℕ) (machine : MonitoredMachine) (invariant : Invariant machin
           same_if_given (first_answers.measures requested status_is_0) (second_answers.measures requested status_is_0)
       -- run and resume enter an enclave, and stop and exit leave the running enclave
       same_by_call (Some Run) requested status_is_0 =
-          same_by_entry Run hart_state.world refl (offered Run requested) (λ host. first_answers.runs host requested status_is_0)
+          same_by_entry Run hart_state.world refl (found_call_is_offered Run requested) (λ host. first_answers.runs host requested status_is_0)
           (λ host. second_answers.runs host requested status_is_0) (λ slot. refl)
       same_by_call (Some Resume) requested status_is_0 =
-          same_by_entry Resume hart_state.world refl (offered Resume requested) (λ host. first_answers.resumes host requested status_is_0)
+          same_by_entry Resume hart_state.world refl (found_call_is_offered Resume requested)
+          (λ host. first_answers.resumes host requested status_is_0)
           (λ host. second_answers.resumes host requested status_is_0) (λ slot. refl)
       same_by_call (Some Stop) requested status_is_0 = same_by_stop hart_state.world refl requested
       same_by_call (Some Exit) requested status_is_0 = same_by_exit hart_state.world refl requested
@@ -186,7 +187,7 @@ module _ (hart : ℕ) (machine : MonitoredMachine) (invariant : Invariant machin
       same_by_status = elim (cases_eq (status_at hart machine) 0) [
         | inl status_is_0 ↦ same_by_call (call_at hart machine) refl status_is_0
         -- a call whose status is not 0 is refused
-        | inr refused ↦ same_if_given (first_answers.refuses refused) (second_answers.refuses refused)
+        | inr status_is_not_0 ↦ same_if_given (first_answers.refuses status_is_not_0) (second_answers.refuses status_is_not_0)
       ]
 
     -- two results of a trap are equal, whatever its cause

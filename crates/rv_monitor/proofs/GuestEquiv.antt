@@ -245,15 +245,15 @@ module _ (enclave hart : ℕ) (one other : MonitoredMachine) (invariant_one : In
   stepped_hart_keeps_host in_range =
       let first_view = guest_view one in
       let second_view = guest_view other in
-      let size_one = length-map one.hart_states guest_state in
-      let size_other = length-map other.hart_states guest_state in
-      let related_harts = equiv.harts in
+      let first_length = length-map one.hart_states guest_state in
+      let second_length = length-map other.hart_states guest_state in
+      let same_count = equiv.harts in
       -- the hart does not run `enclave` in the guest view either, so both guest views have the same hart state
       let not_running_in_view : runs_on enclave hart first_view ≡ false =
       ap (λ (hart_state : HartState). is_world_of enclave hart_state.world) (guest_hart_state hart one) ∙ not_running in
       let hart_states = (equiv.hart_states hart).same not_running_in_view in
       let view_invariant =
-      hart_view_invariant hart first_view (guest_invariant one invariant_one) (omega (arith, size_one, in_range)) in
+      hart_view_invariant hart first_view (guest_invariant one invariant_one) (omega (arith, first_length, in_range)) in
       let same_over_shared =
       step_keeps_host enclave (hart_state_of hart first_view) first_view.shared second_view.shared view_invariant not_running_in_view equiv.shared in
       -- the steps of the guest views leave the same host
@@ -265,7 +265,7 @@ module _ (enclave hart : ℕ) (one other : MonitoredMachine) (invariant_one : In
       subst (λ (hart_state : HartState). SameHost hart_state (guest_state (hart_state_of hart (step_of hart other).state)))
       (sym (guest_state_after hart one invariant_one in_range))
       (subst (SameHost (guest_state (monitored_step (hart_view hart first_view)).state.hart_state))
-      (sym (guest_state_after hart other invariant_other (omega (arith, size_one, size_other, related_harts, in_range)))) same_host_after)
+      (sym (guest_state_after hart other invariant_other (omega (arith, first_length, second_length, same_count, in_range)))) same_host_after)
 
   -- after low steps, each hart that runs the enclave has the same saved host in both machines
   pub same_hosts_after : (other_hart : ℕ) → runs_on enclave other_hart (step_of hart one).state ≡ true

@@ -21,12 +21,14 @@ use Rattle.rv_monitor.proofs.Prelude.{enclave_state_after, stopped_context, time
 find-passes : {X : Type 0} (test : X → Bool) (xs : List X) (value : X) → find test xs ≡ Some value → test value ≡ true
 find-passes test [] value found = cc
 find-passes {X} test (first ∷ rest) value found = elim (cases_Bool (test first)) [
-  | inl holds ↦
-      let found_in_rest : Some first ≡ Some value = sym (cond-true (test first) _ _ holds) ∙ found in
+  -- the search finds the first element, which passes the test
+  | inl first_passes ↦
+      let some_values_equal : Some first ≡ Some value = sym (cond-true (test first) _ _ first_passes) ∙ found in
       let values_equal : first ≡ value = cc in
-      subst (λ (some_value : X). test some_value ≡ true) values_equal holds
-  | inr fails ↦
-      let found_in_rest : find test rest ≡ Some value = sym (cond-false (test first) _ _ fails) ∙ found in
+      subst (λ (some_value : X). test some_value ≡ true) values_equal first_passes
+  -- the first element fails the test, so the search continues in the rest
+  | inr first_fails ↦
+      let found_in_rest : find test rest ≡ Some value = sym (cond-false (test first) _ _ first_fails) ∙ found in
       find-passes test rest value found_in_rest
 ]
 

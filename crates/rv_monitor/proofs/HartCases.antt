@@ -29,11 +29,11 @@ hart_cases_of_both hart_states other_states hart hart_state other_state Claim sa
     λ some_state. Claim other_hart some_state (hart_state_in (slice_set other_states hart other_state) other_hart) in
     elim (cases_eq other_hart hart) [
       -- the hart is the one that changed: the claim holds for the new states
-      | inl equal ↦
-          subst FirstClaim (sym (get_or-set_at hart_states hart other_hart hart_state (hart_state_at_start 0) equal in_range))
-          (subst (Claim other_hart hart_state) (sym (get_or-set_at other_states hart other_hart other_state (hart_state_at_start 0) equal
+      | inl is_changed_hart ↦
+          subst FirstClaim (sym (get_or-set_at hart_states hart other_hart hart_state (hart_state_at_start 0) is_changed_hart in_range))
+          (subst (Claim other_hart hart_state) (sym (get_or-set_at other_states hart other_hart other_state (hart_state_at_start 0) is_changed_hart
           (omega (arith, same_length, in_range))))
-          (subst (λ (some_hart : ℕ). Claim some_hart hart_state other_state) (sym equal) claim_for_hart))
+          (subst (λ (some_hart : ℕ). Claim some_hart hart_state other_state) (sym is_changed_hart) claim_for_hart))
       -- every other hart keeps its state: the claim holds for the old states
       | inr distinct ↦
           subst FirstClaim (sym (get_or-set_other hart_states hart other_hart hart_state (hart_state_at_start 0) distinct))
@@ -222,10 +222,13 @@ programmed_by hart machine after =
 
 -- the hart is a hart of the machine, and its step traps
 pub record IsTrapping (hart : ℕ) (machine : MonitoredMachine) (trap : Trap) : Type 0 where
+  -- the machine has this hart
   pub has : hart < count_of machine
+  -- the step of the hart's view has the trap
   pub trapped : (monitored_step (hart_view hart machine)).outcome.step.trap ≡ Some trap
   -- the hart takes the step of its view, and the PMP entries of all harts are programmed for the new table
   pub state : (step_of hart machine).state ≡ programmed_by hart machine (monitored_step (hart_view hart machine)).state
+  -- the step of the machine has the outcome of the step of the view
   pub outcome : (step_of hart machine).outcome ≡ (monitored_step (hart_view hart machine)).outcome
 
 -- a step with a trap is the step of a hart of the machine whose view has the trap

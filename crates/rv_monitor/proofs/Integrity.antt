@@ -80,11 +80,11 @@ module _ (slot : ℕ) (hart_state : HartState) (shared : Shared) (valid : IsVali
   unfolding destroyed
   destroy_keeps_slot other_slot slot_accepted live_after = elim (cases_eq slot other_slot) [
     -- the destroyed slot is free after the destroy, but `slot` is live
-    | inl equal ↦
+    | inl slots_equal ↦
         let slot_in_range = live_in_range shared.table other_slot slot_accepted.info valid.count slot_accepted.is in
         let slot_is_free : slot_at (with_slot shared.table other_slot None) other_slot ≡ None =
         at_written_slot shared.table other_slot None (omega (arith, valid.count)) in
-        absurd (both_ways _ (ap (λ (maybe_info : Option SlotInfo). is_some maybe_info) slot_is_free) (rw equal at live_after))
+        absurd (both_ways _ (ap (λ (maybe_info : Option SlotInfo). is_some maybe_info) slot_is_free) (rw slots_equal at live_after))
     -- a destroy of another slot leaves `slot` unchanged
     | inr distinct ↦
         record {

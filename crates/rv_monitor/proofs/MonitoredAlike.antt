@@ -23,22 +23,22 @@ abbrev view_of : HartState → Shared → HartView
 view_of hart_state shared = record { hart_state = hart_state; shared = shared }
 
 -- two steps of a view have equal outcomes, and leave views that are equivalent except `enclave`
-record Agree (enclave : ℕ) (one other : HartViewStepped) : Type 0 where
+record StepsEquiv (enclave : ℕ) (one other : HartViewStepped) : Type 0 where
   pub outcome : one.outcome ≡ other.outcome
   pub hart_state : HartStatesEquivExcept enclave one.state.hart_state other.state.hart_state
   pub shared : SharedEquivExcept enclave one.state.shared other.state.shared
 
 -- the end of the step, with or without a trap, leaves views that are equivalent except `enclave`
-trapped_equiv : (enclave : ℕ) (outcome : StepOutcome) (maybe_trap : Option Trap) (worlds : List World) (hart_state : HartState) (one other : Shared)
+step_ends_equiv : (enclave : ℕ) (outcome : StepOutcome) (maybe_trap : Option Trap) (worlds : List World) (hart_state : HartState) (one other : Shared)
     → SharedInvariant one worlds → SharedInvariant other worlds → is_world_of enclave hart_state.world ≡ false
     → SharedEquivExcept enclave one other
-    → Agree enclave (option_case maybe_trap (unhandled outcome hart_state one) (λ trap. returned outcome (handled hart_state one trap)))
+    → StepsEquiv enclave (option_case maybe_trap (unhandled outcome hart_state one) (λ trap. returned outcome (handled hart_state one trap)))
     (option_case maybe_trap (unhandled outcome hart_state other) (λ trap. returned outcome (handled hart_state other trap)))
 -- without a trap, nothing follows the bare step
-trapped_equiv enclave outcome None worlds hart_state one other shared_invariant_one shared_invariant_other not_running shared_equiv =
+step_ends_equiv enclave outcome None worlds hart_state one other shared_invariant_one shared_invariant_other not_running shared_equiv =
     record { outcome = refl; hart_state = record { world = refl; same = λ not_running. refl }; shared = shared_equiv }
 -- with a trap, the noninterference of the trap handler applies
-trapped_equiv enclave outcome (Some trap) worlds hart_state one other shared_invariant_one shared_invariant_other not_running shared_equiv =
+step_ends_equiv enclave outcome (Some trap) worlds hart_state one other shared_invariant_one shared_invariant_other not_running shared_equiv =
     let handler_results =
     handler_law enclave worlds hart_state one other trap shared_invariant_one shared_invariant_other not_running shared_equiv in
     record {
@@ -53,8 +53,8 @@ abbrev stepped : HartState → Shared → Stepped
 stepped hart_state shared = step (record { hart = hart_state.hart; memory = shared.memory })
 
 -- the shared state with the memory after the bare step
-abbrev stored : HartState → Shared → Shared
-stored hart_state shared = record shared { memory = (stepped hart_state shared).state.memory }
+abbrev shared_after_bare : HartState → Shared → Shared
+shared_after_bare hart_state shared = record shared { memory = (stepped hart_state shared).state.memory }
 
 -- the result of the step from the outcome of the bare step: the trap handler follows if the bare step traps
 abbrev after_bare : StepOutcome → HartState → Shared → HartViewStepped
@@ -62,9 +62,9 @@ after_bare outcome hart_state shared =
     option_case outcome.trap (unhandled outcome hart_state shared) (λ trap. returned outcome (handled hart_state shared trap))
 
 -- the bare step preserves the shared invariant
-stored_sound : (worlds : List World) (hart_state : HartState) (shared : Shared) → SharedInvariant shared worlds
-    → SharedInvariant (stored hart_state shared) worlds
-stored_sound worlds hart_state shared shared_invariant =
+bare_step_keeps_shared_invariant : (worlds : List World) (hart_state : HartState) (shared : Shared) → SharedInvariant shared worlds
+    → SharedInvariant (shared_after_bare hart_state shared) worlds
+bare_step_keeps_shared_invariant worlds hart_state shared shared_invariant =
     let before : Machine = record { hart = hart_state.hart; memory = shared.memory } in
     sound_by_size shared worlds (stepped hart_state shared).state.memory shared_invariant (step_size before (step before) (confined before))
 
@@ -73,7 +73,7 @@ step_equiv : (enclave : ℕ) (hart_state : HartState) (worlds : List World) (one
     → HartViewInvariant (view_of hart_state one)
     → SharedInvariant one worlds → SharedInvariant other worlds → is_world_of enclave hart_state.world ≡ false
     → SharedEquivExcept enclave one other
-    → Agree enclave (monitored_step (view_of hart_state one)) (monitored_step (view_of hart_state other))
+    → StepsEquiv enclave (monitored_step (view_of hart_state one)) (monitored_step (view_of hart_state other))
 unfolding monitored_step
 step_equiv enclave hart_state worlds one other view_invariant_one shared_invariant_one shared_invariant_other not_running shared_equiv =
     let first_bare = stepped hart_state one in
@@ -81,23 +81,25 @@ step_equiv enclave hart_state worlds one other view_invariant_one shared_invaria
     -- the bare steps are alike, because they access no byte in the region of `enclave`
     let bare_steps_alike =
     bare_law enclave (view_of hart_state one) other.memory view_invariant_one not_running shared_equiv.memory in
-    let shared : SharedEquivExcept enclave (stored hart_state one) (stored hart_state other) = record {
+    let shared_equiv_after : SharedEquivExcept enclave (shared_after_bare hart_state one) (shared_after_bare hart_state other) = record {
       table = shared_equiv.table;
       memory = bare_steps_alike.memory;
       contexts = shared_equiv.contexts;
-      gone = λ not_live. ap (stored hart_state) (shared_equiv.gone not_live);
+      gone = λ not_live. ap (shared_after_bare hart_state) (shared_equiv.gone not_live);
     } in
     -- the trap handler, if the bare steps trap, keeps the shared states equivalent
-    let ended =
-    trapped_equiv enclave first_bare.outcome first_bare.outcome.trap worlds (record hart_state { hart = first_bare.state.hart })
-    (stored hart_state one)
-    (stored hart_state other)
-    (stored_sound worlds hart_state one shared_invariant_one) (stored_sound worlds hart_state other shared_invariant_other) not_running shared in
-    let AgreeFor : Hart → StepOutcome → Type 0 = λ hart outcome. Agree enclave
-    (after_bare first_bare.outcome (record hart_state { hart = first_bare.state.hart }) (stored hart_state one))
-    (after_bare outcome (record hart_state { hart = hart }) (stored hart_state other)) in
-    subst (λ hart. AgreeFor hart second_bare.outcome) (sym bare_steps_alike.hart)
-    (subst (λ outcome. AgreeFor first_bare.state.hart outcome) (sym bare_steps_alike.outcome) ended)
+    let ends_equiv =
+    step_ends_equiv enclave first_bare.outcome first_bare.outcome.trap worlds (record hart_state { hart = first_bare.state.hart })
+    (shared_after_bare hart_state one)
+    (shared_after_bare hart_state other)
+    (bare_step_keeps_shared_invariant worlds hart_state one shared_invariant_one)
+    (bare_step_keeps_shared_invariant worlds hart_state other shared_invariant_other)
+    not_running shared_equiv_after in
+    let StepsEquivFor : Hart → StepOutcome → Type 0 = λ hart outcome. StepsEquiv enclave
+    (after_bare first_bare.outcome (record hart_state { hart = first_bare.state.hart }) (shared_after_bare hart_state one))
+    (after_bare outcome (record hart_state { hart = hart }) (shared_after_bare hart_state other)) in
+    subst (λ hart. StepsEquivFor hart second_bare.outcome) (sym bare_steps_alike.hart)
+    (subst (λ outcome. StepsEquivFor first_bare.state.hart outcome) (sym bare_steps_alike.outcome) ends_equiv)
 
 -- ---- a step of a hart of the machine
 
@@ -118,12 +120,12 @@ views_equiv : (enclave hart : ℕ) (one other : MonitoredMachine) → Invariant 
     → EquivExcept enclave one other
     → hart < count_of one
     → runs_on enclave hart one ≡ false
-    → Agree enclave (monitored_step (hart_view hart one)) (monitored_step (hart_view hart other))
+    → StepsEquiv enclave (monitored_step (hart_view hart one)) (monitored_step (hart_view hart other))
 views_equiv enclave hart one other invariant_one invariant_other equiv in_range not_running =
     let hart_states = equiv.hart_states hart in
     let shared_invariant_other =
     subst (SharedInvariant other.shared) (sym (same_worlds enclave one other equiv)) invariant_other.shared in
-    subst (λ (hart_state : HartState). Agree enclave (monitored_step (hart_view hart one)) (monitored_step (view_of hart_state other.shared)))
+    subst (λ (hart_state : HartState). StepsEquiv enclave (monitored_step (hart_view hart one)) (monitored_step (view_of hart_state other.shared)))
     (hart_states.same not_running)
     (step_equiv enclave (hart_state_of hart one) (worlds one) one.shared other.shared
     (hart_view_invariant hart one invariant_one in_range) invariant_one.shared shared_invariant_other not_running equiv.shared)
@@ -137,13 +139,13 @@ reprogrammed_equiv enclave (Some trap) table hart_state other_state equiv =
     record { world = equiv.world; same = λ not_running. ap (reprogrammed table) (equiv.same not_running) }
 
 -- after low steps of two equivalent machines, the states of each hart are equivalent
-stepped_equiv : (enclave hart : ℕ) (one other : MonitoredMachine) (stepped other_stepped : HartViewStepped)
+hart_states_equiv_after : (enclave hart : ℕ) (one other : MonitoredMachine) (stepped other_stepped : HartViewStepped)
     → EquivExcept enclave one other
     → hart < count_of one
-    → Agree enclave stepped other_stepped
+    → StepsEquiv enclave stepped other_stepped
     → (other_hart : ℕ) → HartStatesEquivExcept enclave (hart_state_of other_hart (stepped_by hart one stepped).state)
     (hart_state_of other_hart (stepped_by hart other other_stepped).state)
-stepped_equiv enclave hart one other stepped other_stepped equiv in_range view_steps_agree other_hart =
+hart_states_equiv_after enclave hart one other stepped other_stepped equiv in_range view_steps_equiv other_hart =
     let same_harts = equiv.harts in
     elim (cases_lt other_hart (count_of one)) [
       -- neither machine has this hart
@@ -156,11 +158,12 @@ stepped_equiv enclave hart one other stepped other_stepped equiv in_range view_s
           (omega (arith, second_count, same_harts, past_last))))
       | inl other_in_range ↦ elim (cases_eq other_hart hart) [
         -- the stepping hart has the state of its view after the step, and the views agree
-        | inl equal ↦ hart_states_equiv enclave _ _ _ _ (stepping_hart_state hart one stepped other_hart equal in_range)
-            (stepping_hart_state hart other other_stepped other_hart equal (omega (arith, same_harts, in_range))) view_steps_agree.hart_state
+        | inl is_stepping_hart ↦ hart_states_equiv enclave _ _ _ _ (stepping_hart_state hart one stepped other_hart is_stepping_hart in_range)
+            (stepping_hart_state hart other other_stepped other_hart is_stepping_hart (omega (arith, same_harts, in_range)))
+            view_steps_equiv.hart_state
         -- every other hart is reprogrammed alike, because the traps and the tables are equal
         | inr distinct ↦
-            let traps = ap (λ (outcome : Outcome). outcome.step.trap) view_steps_agree.outcome in
+            let traps = ap (λ (outcome : Outcome). outcome.step.trap) view_steps_equiv.outcome in
             let ReprogrammedEquiv : Option Trap → Slots → Type 0 =
             λ maybe_trap table. HartStatesEquivExcept enclave (hart_state_reprogrammed stepped.outcome.step.trap stepped.state.shared.table
             (hart_state_of other_hart one))
@@ -169,7 +172,7 @@ stepped_equiv enclave hart one other stepped other_stepped equiv in_range view_s
             (other_hart_state hart other other_stepped other_hart distinct (omega (arith, same_harts, other_in_range)))
             -- both harts were equivalent before, and reprogramming keeps the equivalence
             (subst (λ (maybe_trap : Option Trap). ReprogrammedEquiv maybe_trap other_stepped.state.shared.table) traps
-            (subst (ReprogrammedEquiv stepped.outcome.step.trap) view_steps_agree.shared.table
+            (subst (ReprogrammedEquiv stepped.outcome.step.trap) view_steps_equiv.shared.table
             (reprogrammed_equiv enclave stepped.outcome.step.trap stepped.state.shared.table (hart_state_of other_hart one)
             (hart_state_of other_hart other)
             (equiv.hart_states other_hart))))
@@ -189,14 +192,14 @@ noninterference hart one invariant enclave other invariant_other equiv not_runni
       | inl in_range ↦
           let first_after = monitored_step (hart_view hart one) in
           let second_after = monitored_step (hart_view hart other) in
-          let view_steps_agree =
+          let view_steps_equiv =
           views_equiv enclave hart one other invariant invariant_other equiv in_range not_running in
           rw (machine_step_is hart one in_range, machine_step_is hart other (omega (arith, same_harts, in_range))) (record {
-            outcome = view_steps_agree.outcome;
+            outcome = view_steps_equiv.outcome;
             state = record {
               harts = stepped_count hart one first_after ∙ equiv.harts ∙ sym (stepped_count hart other second_after);
-              hart_states = stepped_equiv enclave hart one other first_after second_after equiv in_range view_steps_agree;
-              shared = view_steps_agree.shared;
+              hart_states = hart_states_equiv_after enclave hart one other first_after second_after equiv in_range view_steps_equiv;
+              shared = view_steps_equiv.shared;
             };
           })
     ]

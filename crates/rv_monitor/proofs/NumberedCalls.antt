@@ -73,24 +73,24 @@ module _ (hart_state : HartState) (shared : Shared) where
   refusals_are_rows Exit = refl
 
   -- the requested call, which the numbers in a7 and a6 determine
-  abbrev numbered : Option Call
-  numbered = call_numbered hart_state.world (register hart_state.hart.regs 17) (register hart_state.hart.regs 16)
+  abbrev numbered_call : Option Call
+  numbered_call = call_numbered hart_state.world (register hart_state.hart.regs 17) (register hart_state.hart.regs 16)
 
   -- the status of the requested call
   abbrev status : ℕ
   status = call_status hart_state.world shared hart_state.hart.csrs.pmp hart_state.hart.regs
 
   -- no refusal of a call applies, if the status of its table is 0
-  not_refused : (call : Call) → first_status (rows_of call) ≡ 0
+  no_refusal_if_status_0 : (call : Call) → first_status (rows_of call) ≡ 0
       → first_refusal (call_refusals hart_state shared call) ≡ None
-  not_refused call status_is_0 =
+  no_refusal_if_status_0 call status_is_0 =
       no_row_holds (call_refusals hart_state shared call) (ap first_status (refusals_are_rows call) ∙ status_is_0)
 
   -- if the status of a call's table is not 0, then the monitor refuses the call with this status
-  called_refused : (call : Call) → first_status (rows_of call) ≢ 0
+  call_is_refused : (call : Call) → first_status (rows_of call) ≢ 0
       → called hart_state shared call ≡ returned_to_caller hart_state shared (first_status (rows_of call)) 0
   unfolding called
-  called_refused call status_is_not_0 =
+  call_is_refused call status_is_not_0 =
       subst
       (λ (rows : List (Bool × ℕ)). first_status rows ≢ 0 → option_case (first_refusal (call_refusals hart_state shared call))
       (performed hart_state shared call)
@@ -98,18 +98,18 @@ module _ (hart_state : HartState) (shared : Shared) where
       (refused_by_status hart_state shared (performed hart_state shared call) (call_refusals hart_state shared call)) status_is_not_0
 
   -- If the status of an ecall is not 0, then the monitor refuses the ecall with this status. The status is 0xFFFFFFFF if the ecall requests no call.
-  ecall_refused : (maybe_call : Option Call) → option_case maybe_call 0xFFFFFFFF (λ call. first_status (rows_of call)) ≢ 0
+  ecall_is_refused : (maybe_call : Option Call) → option_case maybe_call 0xFFFFFFFF (λ call. first_status (rows_of call)) ≢ 0
       → option_case maybe_call (refused hart_state shared NotSupported) (called hart_state shared)
       ≡ returned_to_caller hart_state shared (option_case maybe_call 0xFFFFFFFF (λ call. first_status (rows_of call))) 0
-  ecall_refused None status_is_not_0 = refl
-  ecall_refused (Some call) status_is_not_0 = called_refused call status_is_not_0
+  ecall_is_refused None status_is_not_0 = refl
+  ecall_is_refused (Some call) status_is_not_0 = call_is_refused call status_is_not_0
 
   -- an ecall whose status is not 0 returns this status and 0, and leaves the shared state unchanged
-  pub handled_refused : (trap : Trap) (cause : Cause) → cause ≡ causes.Exception EnvironmentCallFromS → status ≢ 0
+  pub handler_refuses_call : (trap : Trap) (cause : Cause) → cause ≡ causes.Exception EnvironmentCallFromS → status ≢ 0
       → handled_cause hart_state shared trap cause ≡ returned_to_caller hart_state shared status 0
   unfolding call_handled call_status
-  handled_refused trap cause by_ecall status_is_not_0 =
-      let requested = numbers.call hart_state.world in rw (by_ecall, requested) (ecall_refused numbered status_is_not_0)
+  handler_refuses_call trap cause by_ecall status_is_not_0 =
+      let requested = numbers.call hart_state.world in rw (by_ecall, requested) (ecall_is_refused numbered_call status_is_not_0)
 
   -- if the status of an ecall is 0, then the table of the requested call gives the status 0
   status_of_call : (call : Call) (maybe_call : Option Call) → maybe_call ≡ Some call
@@ -119,25 +119,26 @@ module _ (hart_state : HartState) (shared : Shared) where
       subst (λ (maybe_call : Option Call). option_case maybe_call 0xFFFFFFFF (λ some_call. first_status (rows_of some_call)) ≡ 0) call_is status_is_0
 
   -- no refusal of the requested call applies, if the status is 0
-  pub no_refusal_of_call : (call : Call) → numbered ≡ Some call → status ≡ 0
+  pub no_refusal_of_call : (call : Call) → numbered_call ≡ Some call → status ≡ 0
       → first_refusal (call_refusals hart_state shared call) ≡ None
   unfolding call_status
   no_refusal_of_call call numbered_is status_is_0 =
-      not_refused call (status_of_call call numbered numbered_is status_is_0)
+      no_refusal_if_status_0 call (status_of_call call numbered_call numbered_is status_is_0)
 
   -- the call with the numbers in a7 and a6 is the requested call
-  pub numbered_call_is_requested : (call : Call) → numbered ≡ Some call
+  pub numbered_call_is_requested : (call : Call) → numbered_call ≡ Some call
       → requested_call hart_state.world hart_state.hart.regs ≡ Some call
   numbered_call_is_requested call numbered_is = numbers.call hart_state.world ∙ numbered_is
 
   -- the trap handler performs the requested call, if the status is 0
-  pub handled_done : (trap : Trap) (cause : Cause) (call : Call) → cause ≡ causes.Exception EnvironmentCallFromS
-      → numbered ≡ Some call → status ≡ 0
+  pub handler_performs_call : (trap : Trap) (cause : Cause) (call : Call) → cause ≡ causes.Exception EnvironmentCallFromS
+      → numbered_call ≡ Some call → status ≡ 0
       → handled_cause hart_state shared trap cause ≡ performed hart_state shared call
   unfolding call_handled called
-  handled_done trap cause call by_ecall numbered_is status_is_0 =
+  handler_performs_call trap cause call by_ecall numbered_is status_is_0 =
       let requested = numbered_call_is_requested call numbered_is in
       let no_refusal = no_refusal_of_call call numbered_is status_is_0 in
+      -- the cause is an ecall, the ecall requests this call, and no refusal of the call applies
       rw (by_ecall, requested, no_refusal) refl
 
   -- create returns 0 and the lowest free slot, and puts the new enclave into the shared state
@@ -190,25 +191,26 @@ answered_view view trap shared a0_value a1_value =
 -- the trap handler returns to the caller with values in a0 and a1, and leaves this shared state
 module _ (view : HartView) (view_invariant : HartViewInvariant view) (trap : Trap) (shared : Shared) (a0_value a1_value : ℕ) where
   -- the return to the caller gives the view after a return to the caller
-  returned_answered : (outcome : StepOutcome)
+  return_gives_answered_view : (outcome : StepOutcome)
       → (returned outcome (with_reprogrammed_hart (returned_to_caller (hart_state_after view.hart_state trap) shared a0_value a1_value))).state
       ≡ answered_view view trap shared a0_value a1_value
-  returned_answered outcome =
+  return_gives_answered_view outcome =
       let hart = view.hart_state.hart in
       let mprv = view_invariant.hart.layout.mprv in
+      -- the pc after the ecall is a multiple of 4, `|| false` after the test of bit 0 of mcountinhibit changes nothing, and MPRV is 0
       rw (next_is_aligned hart.pc, or-false (is_set hart.csrs.mcountinhibit 0), mprv) refl
 
   -- the view after the step is the view after a return to the caller, and the step enters no slot
   abbrev StepAnswers : HartViewStepped → Type 0
   StepAnswers after = (after.state ≡ answered_view view trap shared a0_value a1_value) × (after.outcome.entered ≡ None)
 
-  -- if the trap handler returns to the caller, then the step satisfies `Answered`
+  -- if the trap handler returns to the caller, then the step satisfies `StepAnswers`
   handler_answer_is_step_answer : (outcome : StepOutcome)
       → handled_cause (hart_state_after view.hart_state trap) view.shared trap trap.cause
       ≡ returned_to_caller (hart_state_after view.hart_state trap) shared a0_value a1_value
       → StepAnswers (returned outcome (handled (hart_state_after view.hart_state trap) view.shared trap))
   unfolding handled
-  handler_answer_is_step_answer outcome handled_is = rw handled_is (returned_answered outcome, refl)
+  handler_answer_is_step_answer outcome handled_is = rw handled_is (return_gives_answered_view outcome, refl)
 
 -- the step of a hart of the machine has this trap
 module _ (hart : ℕ) (machine : MonitoredMachine) (invariant : Invariant machine) (trap : Trap) (trapping : IsTrapping hart machine trap) where
@@ -217,12 +219,12 @@ module _ (hart : ℕ) (machine : MonitoredMachine) (invariant : Invariant machin
   view_before = hart_view hart machine
 
   -- the hart state at the trap, before the trap handler
-  abbrev after_trap : HartState
-  after_trap = hart_state_after view_before.hart_state trap
+  abbrev state_at_trap : HartState
+  state_at_trap = hart_state_after view_before.hart_state trap
 
   -- if the trap handler returns to the caller, then the step of the machine returns to the caller
   returns : (shared : Shared) (a0_value a1_value : ℕ)
-      → handled_cause after_trap machine.shared trap trap.cause ≡ returned_to_caller after_trap shared a0_value a1_value
+      → handled_cause state_at_trap machine.shared trap trap.cause ≡ returned_to_caller state_at_trap shared a0_value a1_value
       → Returns hart machine (step_of hart machine) trap shared a0_value a1_value
   returns shared a0_value a1_value handled_is =
       let (view_state_is, view_entered_is) =
@@ -235,8 +237,8 @@ module _ (hart : ℕ) (machine : MonitoredMachine) (invariant : Invariant machin
   -- ---- entry
 
   -- if the trap handler enters the slot in a0, then the enclave in this slot runs after the step
-  slot_runs_after_entry : handled_cause after_trap machine.shared trap trap.cause ≡ entry after_trap machine.shared
-      → (hart_state_of hart (step_of hart machine).state).world ≡ Enclave (a0 after_trap)
+  slot_runs_after_entry : handled_cause state_at_trap machine.shared trap trap.cause ≡ entry state_at_trap machine.shared
+      → (hart_state_of hart (step_of hart machine).state).world ≡ Enclave (a0 state_at_trap)
   unfolding handled entered_slot
   slot_runs_after_entry handled_is =
       ap (λ (after : HartViewStepped). after.state.hart_state.world)
@@ -255,13 +257,13 @@ module _ (hart : ℕ) (machine : MonitoredMachine) (invariant : Invariant machin
       subst (λ (entry_trap : Trap). EntersByCall hart machine (step_of hart machine) entry_trap slot) traps_equal has_entered.call
 
   -- a call that enters the slot in a0 makes the step of the machine an entry of this slot
-  entering_call_enters : (call : Call) → performed after_trap machine.shared call ≡ entry after_trap machine.shared
-      → handled_cause after_trap machine.shared trap trap.cause ≡ performed after_trap machine.shared call
+  entering_call_enters : (call : Call) → performed state_at_trap machine.shared call ≡ entry state_at_trap machine.shared
+      → handled_cause state_at_trap machine.shared trap trap.cause ≡ performed state_at_trap machine.shared call
       → view_before.hart_state.world ≡ Host
       → (step_of hart machine).outcome.step.trap ≡ Some trap
-      → EntersByCall hart machine (step_of hart machine) trap (a0 after_trap)
+      → EntersByCall hart machine (step_of hart machine) trap (a0 state_at_trap)
   entering_call_enters call performs_entry handled_is from_host trapped =
-      entry_is_by_call (a0 after_trap) from_host trapped (slot_runs_after_entry (handled_is ∙ performs_entry))
+      entry_is_by_call (a0 state_at_trap) from_host trapped (slot_runs_after_entry (handled_is ∙ performs_entry))
 
 -- ---- exit
 
@@ -286,14 +288,14 @@ stop_numbered true false false false is_stop = cc
 stop_numbered false is_5 is_6 is_7 is_stop = cc
 
 -- a register with the number of stop (6) does not have the number of exit (7)
-six_not_seven : (a6 : ℕ) → (a6 == 6) ≡ true → (a6 == 7) ≡ false
-six_not_seven a6 is_six = grind (arith, nat_tests)
+stop_is_not_exit_number : (a6 : ℕ) → (a6 == 6) ≡ true → (a6 == 7) ≡ false
+stop_is_not_exit_number a6 is_six = grind (arith, nat_tests)
 
 -- if an enclave requests stop, then a6 does not have the number of exit
 requests_stop-a6 : (slot a7 a6 : ℕ) → call_numbered (Enclave slot) a7 a6 ≡ Some Stop → (a6 == call_number Exit) ≡ false
 unfolding call_numbered
 requests_stop-a6 slot a7 a6 call_numbered_is =
-    six_not_seven a6 (stop_numbered (a7 == 0x0A454E43) (a6 == 5) (a6 == 6) (a6 == 7) call_numbered_is)
+    stop_is_not_exit_number a6 (stop_numbered (a7 == 0x0A454E43) (a6 == 5) (a6 == 6) (a6 == 7) call_numbered_is)
 
 -- if an enclave requests exit, then a6 has the number of exit
 requests_exit-a6 : (slot a7 a6 : ℕ) → call_numbered (Enclave slot) a7 a6 ≡ Some Exit → (a6 == call_number Exit) ≡ true
@@ -352,7 +354,7 @@ answers_calls hart machine invariant trap traps by_ecall =
     -- the trap handler performs a requested call with status 0
     let handler_performs : (call : Call) → call_at hart machine ≡ Some call → status_at hart machine ≡ 0
     → handled_cause hart_state shared trap trap.cause ≡ performed hart_state shared call =
-    λ call is_call status_is_0. handled_done hart_state shared trap trap.cause call by_ecall is_call status_is_0 in
+    λ call is_call status_is_0. handler_performs_call hart_state shared trap trap.cause call by_ecall is_call status_is_0 in
     -- a stop or an exit leaves the machine that `left_machine` gives, and enters no slot
     let leaves_machine : (slot : ℕ) (host : Context) (call : Call)
     → before.world ≡ Enclave slot → before.host_context ≡ Some host → call_at hart machine ≡ Some call
@@ -371,7 +373,7 @@ answers_calls hart machine invariant trap traps by_ecall =
       -- a refused call returns its status
       refuses = λ status_is_not_0.
           returns hart machine invariant trap trapping shared (status_at hart machine) 0
-          (handled_refused hart_state shared trap trap.cause by_ecall status_is_not_0);
+          (handler_refuses_call hart_state shared trap trap.cause by_ecall status_is_not_0);
       -- an accepted create, destroy or measure returns to the caller
       creates =
           λ is_call status_is_0. returns hart machine invariant trap trapping _ 0 _

@@ -15,7 +15,7 @@ use Rattle.rv_monitor.proofs.Prelude.{EqualOn, Handled, HasPmpLayout, IsUnlocked
 use Rattle.rv_monitor.proofs.Prelude.{HartViewStepped, SameIn, Stores, bare_machine, cases_lt, cfg_of, confined, get_or_past, handled}
 use Rattle.rv_monitor.proofs.Prelude.{keeps_machine_parts, keeps_mprv_clear, monitored_step, returned, returned_to, reprogrammed, sound_by_size}
 use Rattle.rv_monitor.proofs.Prelude.{unhandled}
-use Rattle.rv_monitor.proofs.Ready.{IsTrapped, InvariantAfterHandler, IsLaidOut, handled_done, handled_laid_out}
+use Rattle.rv_monitor.proofs.Ready.{IsTrapped, InvariantAfterHandler, IsLaidOut, invariant_after_handler, layout_after_handler}
 use Rattle.rv_monitor.proofs.TrapSteps.{step_cases, hart_after, hart_state_after}
 use Rattle.rv_monitor.proofs.Alignment.{aligned_is_multiple}
 
@@ -84,12 +84,12 @@ step_size before after is_confined =
     stored_size is_confined.bytes before.memory after.state.memory after.outcome.touched.stored (is_confined.alike before.memory same_memory).here
 
 -- CSRs with equal machine's parts have equal PMP entries, mie and bits of mstatus
-same_parts : (csrs other_csrs : CsrState) → machine_parts csrs ≡ machine_parts other_csrs
+equal_machine_parts : (csrs other_csrs : CsrState) → machine_parts csrs ≡ machine_parts other_csrs
     → (csrs.pmp ≡ other_csrs.pmp) × (csrs.mie ≡ other_csrs.mie) × (csrs.mstatus.mie ≡ other_csrs.mstatus.mie) ×
     (csrs.mstatus.tvm ≡ other_csrs.mstatus.tvm) × (csrs.mstatus.tw ≡ other_csrs.mstatus.tw)
     × (csrs.mstatus.tsr ≡ other_csrs.mstatus.tsr)
 unfolding machine_parts
-same_parts csrs other_csrs machine_parts_is = (
+equal_machine_parts csrs other_csrs machine_parts_is = (
   ap (λ (csrs : CsrState). csrs.pmp) machine_parts_is,
   ap (λ (csrs : CsrState). csrs.mie) machine_parts_is,
   ap (λ (csrs : CsrState). csrs.mstatus.mie) machine_parts_is,
@@ -179,17 +179,17 @@ module _ (other_worlds : List World) (hart_state : HartState) (shared : Shared)
         pc = aligned_is_multiple hart_state.hart.pc;
       }
 
-  -- a step without a trap satisfies `InvariantBeside`
-  kept_without_trap : (after : Stepped) → IsConfined (bare_machine view) after
+  -- a step without a trap, whose bare step stays below M and leaves MPRV 0, satisfies `InvariantBeside`
+  invariant_without_trap : (after : Stepped) → IsConfined (bare_machine view) after
       → StaysBelow hart_state.hart after.state.hart
       → after.state.hart.csrs.mstatus.mprv ≡ false
       → InvariantBeside other_worlds (unhandled after.outcome (record hart_state { hart = after.state.hart })
       (record shared { memory = after.state.memory }))
-  kept_without_trap after is_confined stays_below mprv =
+  invariant_without_trap after is_confined stays_below mprv =
       let hart = after.state.hart in
       let (machine_parts_unchanged, below_m) = stays_below in
       let (pmp_unchanged, mie_unchanged, mstatus_mie_unchanged, tvm_unchanged, tw_unchanged, tsr_unchanged) =
-      same_parts hart.csrs hart_state.hart.csrs machine_parts_unchanged in
+      equal_machine_parts hart.csrs hart_state.hart.csrs machine_parts_unchanged in
       let layout = hart_invariant.layout in (
         -- the memory keeps its size
         sound_by_size shared (hart_state.world ∷ other_worlds) after.state.memory shared_invariant (step_size (bare_machine view) after is_confined),
@@ -207,10 +207,10 @@ module _ (other_worlds : List World) (hart_state : HartState) (shared : Shared)
       )
 
   -- the return from a result of the trap handler that satisfies `InvariantAfterHandler` satisfies `InvariantBeside`
-  kept_after_handler : (outcome : StepOutcome) (result : Handled) → InvariantAfterHandler other_worlds result
+  invariant_after_return : (outcome : StepOutcome) (result : Handled) → InvariantAfterHandler other_worlds result
       → IsLaidOut result.shared.table result.hart_state
       → InvariantBeside other_worlds (returned outcome result)
-  kept_after_handler outcome result invariant_after is_laid_out =
+  invariant_after_return outcome result invariant_after is_laid_out =
       let ready = invariant_after.ready in (
         ready.sound,
         invariant_with_hart result.shared.table result.hart_state (returned_to result.hart_state.hart result.next.pc result.next.mode) ready.host
@@ -240,11 +240,11 @@ module _ (other_worlds : List World) (hart_state : HartState) (shared : Shared)
       without_trap after.outcome.trap (StaysBelow hart_state.hart after.state.hart) no_trap
       (keeps_machine_parts (bare_machine view) layout.mode layout.mprv) in
       let (_, below_m) = parts_and_mode_kept in
-      kept_without_trap after (confined (bare_machine view)) parts_and_mode_kept
+      invariant_without_trap after (confined (bare_machine view)) parts_and_mode_kept
       (keeps_mprv_clear (bare_machine view) (λ some_bit. layout.mprv) below_m))
       -- with a trap, the trap handler gives the invariant again
       (λ trap traps.
       let hart_state_at_trap = hart_state_after hart_state trap in
-      kept_after_handler after.outcome (handled hart_state_at_trap shared trap)
-      (handled_done other_worlds hart_state_at_trap shared trap (trapped_hart_state trap))
-      (handled_laid_out hart_state_at_trap shared trap))
+      invariant_after_return after.outcome (handled hart_state_at_trap shared trap)
+      (invariant_after_handler other_worlds hart_state_at_trap shared trap (trapped_hart_state trap))
+      (layout_after_handler hart_state_at_trap shared trap))

@@ -135,9 +135,9 @@ record HandledOver (memory other_memory : List ℕ) (result other_result : Handl
   shared : SharedOver memory other_memory result.shared other_result.shared
 
 -- create is offered only to the host
-offered_host : (world : World) → is_offered world Create ≡ true → is_host world ≡ true
-offered_host Host offered = refl
-offered_host (Enclave slot) offered = cc
+create_is_by_host : (world : World) → is_offered world Create ≡ true → is_host world ≡ true
+create_is_by_host Host offered = refl
+create_is_by_host (Enclave slot) offered = cc
 
 -- the region of a create by the host has no hidden byte
 abbrev pub MeasuresSeen : (ℕ → Bool) → World → Slots → Contexts → Type 0
@@ -240,7 +240,7 @@ module _ (hidden : ℕ → Bool) (hart_state : HartState) (trap : Trap) (table :
         -- only the host creates, and the region of the new enclave has no hidden byte
         creates = λ is_request no_refusal.
             let (_, create_is_offered) = requested-is_offered hart_state.world hart_state.hart.regs Create is_request.asked in
-            let host = offered_host hart_state.world create_is_offered in
+            let host = create_is_by_host hart_state.world create_is_offered in
             caller_over _ _ 0 (new_slot table)
             (created_over (create_args_of hart_state.hart.regs) (region_bytes_equal (create_args_of hart_state.hart.regs) host no_refusal));
         -- a destroy and a measure write the same bytes to both memories
@@ -390,7 +390,7 @@ module _ (hidden : ℕ → Bool) (hart_state : HartState) (shared : Shared) (oth
       stored_size first_bare.outcome.touched.stored is_confined.bytes shared.memory first_bare.state.memory alike.here ∙ equal_outside.size
       ∙ sym (stored_size first_bare.outcome.touched.stored is_confined.bytes other_memory second_bare.state.memory alike.there) in
       -- the trap handler follows if the bare step traps
-      let ended =
+      let step_ends_over =
       ended_over hidden first_bare.outcome first_bare.outcome.trap
       (record hart_state { hart = first_bare.state.hart }) shared shared.memory other_memory first_bare.state.memory second_bare.state.memory
       equal_outside same_length changes measures_seen in
@@ -398,7 +398,7 @@ module _ (hidden : ℕ → Bool) (hart_state : HartState) (shared : Shared) (oth
       (after_bare first_bare.outcome (record hart_state { hart = first_bare.state.hart }) (with_bytes shared first_bare.state.memory))
       (after_bare outcome (record hart_state { hart = hart }) (with_bytes shared second_bare.state.memory)) in
       subst (λ hart. StepsOverFor hart second_bare.outcome) (sym alike.hart)
-      (subst (λ outcome. StepsOverFor first_bare.state.hart outcome) (sym alike.outcome) ended)
+      (subst (λ outcome. StepsOverFor first_bare.state.hart outcome) (sym alike.outcome) step_ends_over)
 
 -- ---- the step of the machine
 
