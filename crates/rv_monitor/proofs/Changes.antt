@@ -31,8 +31,8 @@ unchanged_outside_write memory address bytes byte (Some after) write_is byte_out
     byte_at-write memory address bytes after byte write_is byte_outside
 
 -- an address that is not in a block is before the base of the block, or is not before its end
-outside : (block : Block) (byte : ℕ) → has block byte ≡ false → byte < block.base ⊎ block.base + block.size ≤ byte
-outside block byte not_in_block = elim (cases_lt byte block.base) [
+before_or_after_block : (block : Block) (byte : ℕ) → has block byte ≡ false → byte < block.base ⊎ block.base + block.size ≤ byte
+before_or_after_block block byte not_in_block = elim (cases_lt byte block.base) [
   | inl before_start ↦ inl before_start
   | inr from_start ↦ elim (cases_lt byte (block.base + block.size)) [
     -- a byte from the base to the end of the block is in the block
@@ -43,27 +43,27 @@ outside block byte not_in_block = elim (cases_lt byte block.base) [
 ]
 
 -- zeroing a block changes no byte outside the block
-zeroed_integrity : (memory : List ℕ) (block : Block) (byte : ℕ) → has block byte ≡ false
+zeroing_keeps_other_bytes : (memory : List ℕ) (block : Block) (byte : ℕ) → has block byte ≡ false
     → byte_at (zeroed memory block) byte ≡ byte_at memory byte
-zeroed_integrity memory block byte not_in_block =
+zeroing_keeps_other_bytes memory block byte not_in_block =
     let zeroes_length : length (replicate block.size 0) ≡ block.size = length-replicate {A = ℕ} block.size 0 in
     unchanged_outside_write memory block.base (replicate block.size 0) byte (write memory block.base (replicate block.size 0)) refl
-    (rw zeroes_length (outside block byte not_in_block))
+    (rw zeroes_length (before_or_after_block block byte not_in_block))
 
 -- ---- the trap handler
 
--- the byte is unchanged, or is one that the trap handler may change
+-- the byte is unchanged, or is one that the requested call may change
 abbrev Changes : World → List ℕ → Shared → ℕ → Shared → Type 0
 Changes world regs before byte after =
     byte_at after.memory byte ≡ byte_at before.memory byte ⊎ ByMonitor world regs before after byte
 
 -- a destroy changes only bytes of the region that it zeroes
-destroyed_changes : (hart_state : HartState) (shared : Shared) (byte : ℕ) → IsValid shared.memory shared.table
+destroy_changes_region : (hart_state : HartState) (shared : Shared) (byte : ℕ) → IsValid shared.memory shared.table
     → requested_call hart_state.world hart_state.hart.regs ≡ Some Destroy
     → SlotIsAccepted shared.table Destroy (a0 hart_state)
     → Changes hart_state.world hart_state.hart.regs shared byte (destroyed shared (a0 hart_state))
 unfolding destroyed
-destroyed_changes hart_state shared byte valid requested slot_accepted =
+destroy_changes_region hart_state shared byte valid requested slot_accepted =
     let slot = a0 hart_state in
     elim (cases_Bool (has (region shared.table slot) byte)) [
       -- a destroy zeroes the region of the enclave that it ends
@@ -75,7 +75,7 @@ destroyed_changes hart_state shared byte valid requested slot_accepted =
           (omega (arith, valid.count)) in
           inr (inl (record { asked = requested; live = rw slot_is refl; gone = rw slot_is_free refl; own = in_region }))
       -- a byte outside the region is unchanged
-      | inr outside_region ↦ inl (zeroed_integrity shared.memory (region shared.table slot) byte outside_region)
+      | inr outside_region ↦ inl (zeroing_keeps_other_bytes shared.memory (region shared.table slot) byte outside_region)
     ]
 
 -- The hart requests a measure. The lemmas are about one byte of memory.
@@ -143,9 +143,9 @@ module _ (hart_state : HartState) (shared : Shared) (valid : IsValid shared.memo
     ]
 
     -- a measure changes only bytes that the call may change
-    measured_changes : Changes hart_state.world hart_state.hart.regs shared byte (measured shared slot (a1 hart_state))
+    measure_changes_bytes : Changes hart_state.world hart_state.hart.regs shared byte (measured shared slot (a1 hart_state))
     unfolding measured
-    measured_changes = measurement_write_changes (slot_at shared.table slot) (valid.well_formed slot) live
+    measure_changes_bytes = measurement_write_changes (slot_at shared.table slot) (valid.well_formed slot) live
 
 -- The hart has the PMP layout of the table and its world. The lemmas are about one byte of memory.
 module _ (hart_state : HartState) (shared : Shared) (valid : IsValid shared.memory shared.table)
@@ -162,21 +162,21 @@ module _ (hart_state : HartState) (shared : Shared) (valid : IsValid shared.memo
       → Changes hart_state.world hart_state.hart.regs shared byte after
       → ChangedBy after
   change_by_call call after requests (inl unchanged) = inl unchanged
-  change_by_call call after requests (inr changed) = let is_call = requests.is_call in inr (rw is_call refl, changed)
+  change_by_call call after requests (inr changed_by_call) = let cause_is_ecall = requests.is_call in inr (rw cause_is_ecall refl, changed_by_call)
 
   -- the trap handler changes only bytes that the requested call may change
-  handled_changes : ChangedBy (handled hart_state shared trap).shared
+  handler_changes_bytes : ChangedBy (handled hart_state shared trap).shared
   unfolding created entered_slot left
   -- only a destroy and a measure change bytes
-  handled_changes = handler_cases hart_state trap shared (λ result. ChangedBy result.shared) (record {
+  handler_changes_bytes = handler_cases hart_state trap shared (λ result. ChangedBy result.shared) (record {
     answers = λ status result. inl refl;
     creates = λ requests no_refusal. inl refl;
     destroys =
         λ requests slot_accepted. change_by_call Destroy (destroyed shared (a0 hart_state)) requests
-        (destroyed_changes hart_state shared byte valid requests.asked slot_accepted);
+        (destroy_changes_region hart_state shared byte valid requests.asked slot_accepted);
     measures = λ requests no_refusal.
         change_by_call Measure (measured shared (measured_slot hart_state.world (a0 hart_state)) (a1 hart_state)) requests
-        (measured_changes hart_state shared valid byte requests.asked no_refusal.live
+        (measure_changes_bytes hart_state shared valid byte requests.asked no_refusal.live
         (subst (λ (entries : Entries). may_store_all shared.memory entries (a1 hart_state) ≡ true) entries_are_layout no_refusal.stores));
     enters = λ call requests is_entry_call from_host slot_accepted. inl refl;
     leaves = inl refl;
@@ -238,7 +238,7 @@ changes view view_invariant byte =
       -- without a trap, only the instruction changes bytes
       | inr stored ↦ inr (inl stored)
     ])
-    (λ trap trapped. elim (handled_changes
+    (λ trap trapped. elim (handler_changes_bytes
     (hart_state_after view.hart_state trap) view.shared view_invariant.valid view_invariant.hart.layout.entries byte trap) [
       | inl unchanged ↦ inl unchanged
       -- with a trap, only the trap handler changes bytes

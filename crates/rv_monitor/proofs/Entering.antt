@@ -67,12 +67,13 @@ module _ (before : HartView) (slot : ℕ) (context : Context) (from_host : befor
   IsEntryStep after = (after.state ≡ view_after_entry) × (after.outcome.entered ≡ Some slot)
 
   -- the return from an entry of `slot` gives the view after the entry
-  returned_entered : (outcome : StepOutcome) → HartViewInvariant before → can_go_on context ≡ true → a0 hart_state ≡ slot
+  return_after_entry : (outcome : StepOutcome) → HartViewInvariant before → can_go_on context ≡ true → a0 hart_state ≡ slot
       → IsEntryStep (returned outcome (with_reprogrammed_hart entry_result))
   unfolding entered_slot
-  returned_entered outcome view_invariant can_continue a0_is_slot =
+  return_after_entry outcome view_invariant can_continue a0_is_slot =
       let aligned = pc_is_aligned context.mode context.pc can_continue in
       let mprv = view_invariant.hart.layout.mprv in
+      -- a0 names `slot`, whose saved context is `context` with a pc that is a multiple of 4; `|| false` changes nothing, and MPRV is 0
       rw (a0_is_slot, has_context, aligned, or-false (is_set before.hart_state.hart.csrs.mcountinhibit 0), mprv) (refl, refl)
 
   -- if an entry leaves the hart in `slot`, then a0 names `slot`
@@ -90,11 +91,13 @@ module _ (before : HartView) (slot : ℕ) (context : Context) (from_host : befor
       → can_go_on context ≡ true → HostOrEntry result
       → result.hart_state.world ≡ Enclave slot
       → IsEntryStep (returned outcome result)
+  -- the host still runs after the trap handler, so the hart is not in `slot`
   entry_if_in_slot outcome result view_invariant can_continue (inl host_stays) enclave_runs_after =
       let contradiction : Host ≡ Enclave slot = sym host_stays ∙ enclave_runs_after in cc
+  -- the trap handler enters the slot in a0, which is `slot`
   entry_if_in_slot outcome result view_invariant can_continue (inr is_entry) enclave_runs_after =
       subst (λ (some_result : Handled). IsEntryStep (returned outcome some_result)) (sym is_entry)
-      (returned_entered outcome view_invariant can_continue (a0_names_slot result is_entry enclave_runs_after))
+      (return_after_entry outcome view_invariant can_continue (a0_names_slot result is_entry enclave_runs_after))
 
   -- a step with a trap after which the hart is in `slot` is an entry of `slot`
   step_is_entry : HartViewInvariant before → can_go_on context ≡ true
@@ -102,10 +105,10 @@ module _ (before : HartView) (slot : ℕ) (context : Context) (from_host : befor
       → (monitored_step before).state.hart_state.world ≡ Enclave slot → IsEntryStep (monitored_step before)
   step_is_entry view_invariant can_continue trapped enclave_runs_after =
       let step_is = trapped_step before trap trapped in
-      let handled_enclave =
+      let enclave_runs_after_handler =
       subst (λ (after : HartViewStepped). after.state.hart_state.world ≡ Enclave slot) step_is enclave_runs_after in
       subst IsEntryStep (sym step_is)
-      (entry_if_in_slot (step (bare_machine before)).outcome _ view_invariant can_continue handled_host_or_entry handled_enclave)
+      (entry_if_in_slot (step (bare_machine before)).outcome _ view_invariant can_continue handled_host_or_entry enclave_runs_after_handler)
 
 -- ---- an entry is a trap, and the slot had a saved context
 
@@ -117,9 +120,9 @@ module _ (before : HartView) (contexts_agree : SavedContextsInvariant before.sha
       (slot : ℕ) → result.hart_state.world ≡ Enclave slot → is_some (context_at before.shared.contexts slot) ≡ true
 
   -- the host is not an enclave, so nothing is to show for a result in which the host runs
-  no_entry : (world : World) → world ≡ Host → (slot : ℕ) → world ≡ Enclave slot
+  host_runs_no_enclave : (world : World) → world ≡ Host → (slot : ℕ) → world ≡ Enclave slot
       → is_some (context_at before.shared.contexts slot) ≡ true
-  no_entry world from_host slot enclave_runs_after =
+  host_runs_no_enclave world from_host slot enclave_runs_after =
       let contradiction : Host ≡ Enclave slot = sym from_host ∙ enclave_runs_after in cc
 
   -- a slot with an enclave in a state that the call accepts has a saved context
@@ -137,15 +140,15 @@ module _ (before : HartView) (contexts_agree : SavedContextsInvariant before.sha
   unfolding left entered_slot
   -- an entry needs a slot in a state that the call accepts, and every other case continues with the host
   handled_had_context = handler_cases (hart_state_after before.hart_state trap) trap before.shared HadContext (record {
-    answers = λ status result. no_entry _ runs;
-    creates = λ requests no_refusal. no_entry _ runs;
-    destroys = λ requests slot_accepted. no_entry _ runs;
-    measures = λ requests no_refusal. no_entry _ runs;
+    answers = λ status result. host_runs_no_enclave _ runs;
+    creates = λ requests no_refusal. host_runs_no_enclave _ runs;
+    destroys = λ requests slot_accepted. host_runs_no_enclave _ runs;
+    measures = λ requests no_refusal. host_runs_no_enclave _ runs;
     enters =
         λ call requests is_entry_call from_host slot_accepted. accepted_slot_has_context call
         (a0 (hart_state_after before.hart_state trap)) slot_accepted;
-    leaves = no_entry Host refl;
-    redirects = no_entry _ runs;
+    leaves = host_runs_no_enclave Host refl;
+    redirects = host_runs_no_enclave _ runs;
   })
 
   -- the slot that a step enters had a saved context before the step

@@ -105,14 +105,16 @@ module _ (state : HartView) (view_invariant : HartViewInvariant state) (trap : T
   redirected_view = record state { hart_state = record state.hart_state { hart = redirected_hart state.hart_state.hart trap } }
 
   -- the return from a redirection gives the view after a redirected trap
-  returned_redirected : (outcome : StepOutcome)
+  return_after_redirection : (outcome : StepOutcome)
       → (returned outcome (with_reprogrammed_hart (redirected (hart_state_after state.hart_state trap) state.shared trap))).state ≡ redirected_view
   unfolding with_redirected_trap
-  returned_redirected outcome =
+  return_after_redirection outcome =
       let hart = state.hart_state.hart in
       let mprv = view_invariant.hart.layout.mprv in
       let entries = view_invariant.hart.layout.entries in
       let mie = view_invariant.hart.layout.mie in
+      -- Both definitions of SPP agree, a second rounding of stvec and `|| false` change nothing, and MPRV is 0. The PMP entries and mie are those of
+      -- the table and the world.
       rw (same_spp hart.mode, aligned_twice hart.csrs.stvec, or-false (is_set hart.csrs.mcountinhibit 0), mprv, ← entries, ← mie) refl
 
   -- the view after the step is the view after a redirected trap, and the step enters no slot
@@ -124,9 +126,9 @@ module _ (state : HartView) (view_invariant : HartViewInvariant state) (trap : T
       → IsRedirectedTo (returned outcome (handled (hart_state_after state.hart_state trap) state.shared trap))
   unfolding handled
   handler_redirects outcome is_redirection =
-      let result =
+      let handled_is_redirected =
       cause_is_redirected (hart_state_after state.hart_state trap) state.shared trap trap.cause is_redirection in
-      rw result (returned_redirected outcome, refl)
+      rw handled_is_redirected (return_after_redirection outcome, refl)
 
   -- a step with a redirected exception leads to the view after a redirected trap
   step_is_redirected : (monitored_step state).outcome.step.trap ≡ Some trap → is_redirected trap.cause ≡ true
@@ -144,11 +146,11 @@ redirects_step hart machine invariant trap trapped is_redirection =
     let state = hart_view hart machine in
     let (view_state_is, view_entered_none) =
     step_is_redirected state (hart_view_invariant hart machine invariant trapping.has) trap trapping.trapped is_redirection in
-    let left : HartState = record state.hart_state { hart = redirected_hart state.hart_state.hart trap } in (
+    let redirected_state : HartState = record state.hart_state { hart = redirected_hart state.hart_state.hart trap } in (
       -- a redirected trap keeps the table, so the reprogramming leaves the other harts unchanged
       trapping.state ∙ ap (programmed_by hart machine) view_state_is
           ∙ ap (λ (hart_states : List HartState). let after : MonitoredMachine =
-          record { hart_states = slice_set hart_states hart left; shared = machine.shared } in after)
+          record { hart_states = slice_set hart_states hart redirected_state; shared = machine.shared } in after)
           (programmed_harts_unchanged machine.shared.table machine.hart_states invariant.hart_states),
       ap (λ (outcome : Outcome). outcome.entered) trapping.outcome ∙ view_entered_none,
     )

@@ -93,8 +93,10 @@ invariant_after_step hart machine invariant in_range =
       hart_states = λ other_hart other_in_new_range.
           let other_in_range : other_hart < count_of machine = omega (arith, same_length, other_in_new_range) in
           elim (cases_eq other_hart hart) [
+            -- the stepping hart has the invariant after the step of its view
             | inl is_stepping_hart ↦
                 subst (HartInvariant table) (sym (stepping_hart_state hart machine after other_hart is_stepping_hart in_range)) hart_invariant_after
+            -- another hart keeps its state, with the PMP entries and mie of the new table
             | inr is_other_hart ↦
                 subst (HartInvariant table)
                 (sym (other_hart_state hart machine after other_hart is_other_hart other_in_range

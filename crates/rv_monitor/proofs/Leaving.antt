@@ -43,8 +43,8 @@ module _ (before : HartView) (slot : ℕ) (host : Context) (runs_enclave : befor
   StaysOrExits result = (result.hart_state.world ≡ Enclave slot) ⊎ (result ≡ with_reprogrammed_hart exit_result)
 
   -- a claim about a hart that runs both an enclave and the host holds, because there is no such hart
-  enters_never : before.hart_state.world ≡ Host → (Claim : Type 0) → Claim
-  enters_never from_host Claim = let contradiction : Host ≡ Enclave slot = sym from_host ∙ runs_enclave in cc
+  no_entry_from_enclave : before.hart_state.world ≡ Host → (Claim : Type 0) → Claim
+  no_entry_from_enclave from_host Claim = let contradiction : Host ≡ Enclave slot = sym from_host ∙ runs_enclave in cc
 
   -- the trap handler exits the enclave, or leaves the enclave running
   handled_stays_or_exits : StaysOrExits (handled hart_state before.shared trap)
@@ -54,8 +54,8 @@ module _ (before : HartView) (slot : ℕ) (host : Context) (runs_enclave : befor
     creates = λ requests no_refusal. inl runs_enclave;
     destroys = λ requests slot_accepted. inl runs_enclave;
     measures = λ requests no_refusal. inl runs_enclave;
-    enters = λ call requests is_entry_call from_host slot_accepted. enters_never from_host _;
-    leaves = inr (ap (λ (host : Context). with_reprogrammed_hart (leaving_with host)) (saved_context_is trap.cause));
+    enters = λ call requests is_entry_call from_host slot_accepted. no_entry_from_enclave from_host _;
+    leaves = inr (ap (λ (saved_context : Context). with_reprogrammed_hart (leaving_with saved_context)) (saved_context_is trap.cause));
     redirects = inl runs_enclave;
   })
 
@@ -76,24 +76,28 @@ module _ (before : HartView) (slot : ℕ) (host : Context) (runs_enclave : befor
   IsExitStep after = (after.state ≡ view_after_exit) × (after.outcome.entered ≡ None)
 
   -- the return from an exit gives the view after an exit
-  returned_left : (outcome : StepOutcome) → HartViewInvariant before
+  return_after_exit : (outcome : StepOutcome) → HartViewInvariant before
       → IsExitStep (returned outcome (with_reprogrammed_hart exit_result))
   unfolding left
-  returned_left outcome view_invariant =
+  return_after_exit outcome view_invariant =
       let CanGoOnIfSome : Option Context → Type 0 =
       λ maybe_context. IfSome maybe_context (λ some_context. can_go_on some_context ≡ true) in
       let aligned = pc_is_aligned host.mode host.pc (subst CanGoOnIfSome host_is_saved view_invariant.hart.host.held) in
       let mprv = view_invariant.hart.layout.mprv in
+      -- the hart runs the enclave of `slot`, and its saved host context is `host` with a pc that is a multiple of 4. `|| false` changes nothing, and
+      -- MPRV is 0.
       (rw (runs_enclave, host_is_saved, aligned, or-false (is_set before.hart_state.hart.csrs.mcountinhibit 0), mprv) refl, refl)
 
   -- if the host runs after the trap handler, then the return from the trap handler gives the view after an exit
   exit_if_host_runs : (outcome : StepOutcome) (result : Handled) → HartViewInvariant before → StaysOrExits result
       → result.hart_state.world ≡ Host
       → IsExitStep (returned outcome result)
+  -- the enclave still runs after the trap handler, so the host does not run
   exit_if_host_runs outcome result view_invariant (inl stays) host_runs_after =
       let contradiction : Enclave slot ≡ Host = sym stays ∙ host_runs_after in cc
+  -- the result of the trap handler is that of an exit
   exit_if_host_runs outcome result view_invariant (inr is_exit) host_runs_after =
-      subst (λ (some_result : Handled). IsExitStep (returned outcome some_result)) (sym is_exit) (returned_left outcome view_invariant)
+      subst (λ (some_result : Handled). IsExitStep (returned outcome some_result)) (sym is_exit) (return_after_exit outcome view_invariant)
 
   -- a step with a trap after which the host runs is an exit
   step_is_exit : HartViewInvariant before → (monitored_step before).outcome.step.trap ≡ Some trap
@@ -101,9 +105,10 @@ module _ (before : HartView) (slot : ℕ) (host : Context) (runs_enclave : befor
       → IsExitStep (monitored_step before)
   step_is_exit view_invariant trapped host_runs_after =
       let step_is = trapped_step before trap trapped in
-      let handled_host =
+      let host_runs_after_handler =
       subst (λ (after : HartViewStepped). after.state.hart_state.world ≡ Host) step_is host_runs_after in
-      subst IsExitStep (sym step_is) (exit_if_host_runs (step (bare_machine before)).outcome _ view_invariant handled_stays_or_exits handled_host)
+      subst IsExitStep (sym step_is) (exit_if_host_runs (step (bare_machine before)).outcome _ view_invariant handled_stays_or_exits
+      host_runs_after_handler)
 
 -- a step of an enclave with a trap after which the host runs leaves the machine after an exit, and enters no slot
 pub leave_law : (hart : ℕ) (machine : MonitoredMachine) → Invariant machine → (slot : ℕ) (host : Context) (trap : Trap)

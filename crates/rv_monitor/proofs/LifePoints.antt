@@ -33,6 +33,7 @@ hart_is_in_list : (slot : ℕ) (worlds : List World) (index : ℕ)
     → is_world_of slot (slice_index_or worlds index Host) ≡ true → index < length worlds
 hart_is_in_list slot worlds index runs_at_index = elim (cases_lt index (length worlds)) [
   | inl in_range ↦ in_range
+  -- past the end of the list the world counts as the host, which is not the enclave
   | inr past_end ↦
       let contradiction : false ≡ true =
       sym (ap (is_world_of slot) (get_or_past {X = World} worlds index Host past_end)) ∙ runs_at_index in
@@ -206,6 +207,7 @@ context_hart timer context =
 pub below_m_hart_of_context : (table : Slots) (hart_state : HartState) → HartInvariant table hart_state
     → below_m_hart hart_state.hart ≡ context_hart hart_state.hart.csrs.timer (continuation hart_state.hart)
 below_m_hart_of_context table hart_state hart_invariant =
+    -- the invariant fixes MIE, MPRV, TVM, TW and TSR of mstatus; the other CSRs that S and U see are in the context, or are the timer line
     let mie = hart_invariant.layout.mstatus_mie in
     let mprv = hart_invariant.layout.mprv in
     let tvm = hart_invariant.layout.tvm in

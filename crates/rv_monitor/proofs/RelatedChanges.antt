@@ -11,9 +11,12 @@ use Rattle.rv_monitor.proofs.InvariantLemmas.{no_hart_unchanged}
 
 -- `change` of the first hart state and `other_change` of the second keep the world, and keep related hart states related
 pub record ChangesAlike (enclave : ℕ) (one other : HartState) (change other_change : HartState → HartState) : Type 0 where
+  -- `change` keeps the world of the first hart
   pub world : (change one).world ≡ one.world
+  -- equivalent guest states stay equivalent
   pub state : HartStatesEquivExcept enclave (guest_state one) (guest_state other)
       → HartStatesEquivExcept enclave (guest_state (change one)) (guest_state (other_change other))
+  -- the saved hosts stay the same
   pub host : SameHost (guest_state one) (guest_state other)
       → SameHost (guest_state (change one)) (guest_state (other_change other))
 
@@ -21,8 +24,8 @@ pub record ChangesAlike (enclave : ℕ) (one other : HartState) (change other_ch
 module _ (enclave hart : ℕ) (change other_change : HartState → HartState) (one other : MonitoredMachine) (related : AreRelated enclave one other)
     (alike : ChangesAlike enclave (hart_state_of hart one) (hart_state_of hart other) change other_change) where
   -- two changes of a hart of the machines that are alike leave the machines related
-  changed_in_range : hart < count_of one → AreRelated enclave (changed hart change one) (changed hart other_change other)
-  changed_in_range in_range =
+  related_if_in_range : hart < count_of one → AreRelated enclave (changed hart change one) (changed hart other_change other)
+  related_if_in_range in_range =
       let first_changed = change (hart_state_of hart one) in
       let second_changed = other_change (hart_state_of hart other) in
       let same_harts = related.harts in
@@ -50,7 +53,7 @@ module _ (enclave hart : ℕ) (change other_change : HartState → HartState) (o
   -- two changes at any hart number that are alike leave the machines related
   pub changed_related : AreRelated enclave (changed hart change one) (changed hart other_change other)
   changed_related = elim (cases_lt hart (count_of one)) [
-    | inl in_range ↦ changed_in_range in_range
+    | inl in_range ↦ related_if_in_range in_range
     -- no hart of the machine has this number
     | inr past_last ↦
         let same_harts = related.harts in
@@ -66,7 +69,7 @@ pub memory_related : (enclave : ℕ) (one other : MonitoredMachine) (memory othe
     → EqualOutside (may_differ one.shared.table enclave) memory other_memory
     → (is_live one.shared.table enclave ≡ false → memory ≡ other_memory)
     → AreRelated enclave (with_memory one memory) (with_memory other other_memory)
-memory_related enclave one other memory other_memory related equal_outside same_once_dead = record {
+memory_related enclave one other memory other_memory related equal_outside equal_if_not_live = record {
   harts = related.harts;
   hart_states = related.hart_states;
   hosts = related.hosts;
@@ -75,7 +78,7 @@ memory_related enclave one other memory other_memory related equal_outside same_
   contexts = related.contexts;
   -- without a live enclave, the machines and both memories are equal
   gone =
-      λ not_live. ap₂ (λ (shared : Shared) (memory : List ℕ). record shared { memory = memory }) (related.gone not_live) (same_once_dead not_live);
+      λ not_live. ap₂ (λ (shared : Shared) (memory : List ℕ). record shared { memory = memory }) (related.gone not_live) (equal_if_not_live not_live);
 }
 
 -- a machine is related to itself

@@ -23,20 +23,21 @@ module _ (enclave : ℕ) (one other : MonitoredMachine) where
         (guest_state (hart_state_of hart other)) (guest_hart_state hart one) (guest_hart_state hart other) (related.hart_states hart);
     shared = record {
       table = related.table;
-      memory = record { size = related.memory.size; bytes = bytes };
+      memory = record { size = related.memory.size; bytes = bytes_outside_region_equal };
       contexts = related.contexts;
       gone = related.gone;
     };
   } where
     -- the memories of the two machines have equal bytes outside the region of `enclave`
-    bytes : (index : ℕ) → has (region one.shared.table enclave) (ram_base + index) ≡ false
+    bytes_outside_region_equal : (index : ℕ) → has (region one.shared.table enclave) (ram_base + index) ≡ false
         → slice_index one.shared.memory index ≡ slice_index other.shared.memory index
-    bytes index outside_region = elim (cases_Bool (runs one.shared.table enclave)) [
+    bytes_outside_region_equal index outside_region = elim (cases_Bool (runs one.shared.table enclave)) [
       -- while the enclave does not run, only bytes of the region may differ
       | inr idle ↦ related.memory.bytes index (rw (outside_region, idle) refl)
       -- while the enclave runs, the bytes of the window are equal by the premise
       | inl running ↦ elim (cases_Bool (has (window one.shared.table enclave) (ram_base + index))) [
         | inl in_window ↦ (same_window running).bytes index (ap not in_window)
+        -- a byte outside the region and the window may not differ in related machines
         | inr outside_window ↦ related.memory.bytes index (rw (outside_region, running, outside_window) refl)
       ]
     ]

@@ -21,16 +21,19 @@ no_context_is_legal (Some context) no_context = cc
 -- a hart that runs the host has no saved context of the host, so each saved context of the host is legal
 pub host_stored : (hart_state : HartState) → HostContextInvariant hart_state → is_host hart_state.world ≡ true
     → HostContextIsLegal hart_state
-host_stored hart_state keeps host_runs = no_context_is_legal hart_state.host_context (keeps.kept ∙ ap not host_runs)
+host_stored hart_state host_context_invariant host_runs = no_context_is_legal hart_state.host_context (host_context_invariant.kept ∙ ap not host_runs)
 
 -- the step that enters an enclave saves the context of the host after its ecall
 pub entry_saves_host : (view : HartView) (after : HartViewStepped) → StaysOrSwitches view after
     → is_host view.hart_state.world ≡ true
     → is_host after.state.hart_state.world ≡ false
     → after.state.hart_state.host_context ≡ Some (saved view.hart_state.hart (past_ecall view.hart_state.hart) S)
+-- the host runs before the step and an enclave after it, so the world does not continue
 entry_saves_host view after (inl stays) host_runs enclave_runs_after =
     absurd (both_ways _ enclave_runs_after (ap is_host stays.world ∙ host_runs))
+-- the step is an entry, which saves the context of the host
 entry_saves_host view after (inr (inl enters)) host_runs enclave_runs_after = enters.host
+-- the step is an exit, after which the host would run
 entry_saves_host view after (inr (inr leaves)) host_runs enclave_runs_after =
     absurd (both_ways _ enclave_runs_after (ap is_host leaves.world))
 
@@ -88,10 +91,10 @@ own_step_keeps_context hart machine enclave_runs enclave_runs_after =
     (sym (ap (λ (after : HartViewStepped). is_host after.state.hart_state.world) step_is) ∙ enclave_runs_after)
 
 -- a step of any hart keeps the saved context of the host on each hart that runs an enclave before and after the step
-step_keeps : (hart stepping_hart : ℕ) (machine : MonitoredMachine) → is_host (hart_state_of hart machine).world ≡ false
+any_step_keeps_context : (hart stepping_hart : ℕ) (machine : MonitoredMachine) → is_host (hart_state_of hart machine).world ≡ false
     → is_host (hart_state_of hart (step_of stepping_hart machine).state).world ≡ false
     → host_on hart (step_of stepping_hart machine).state ≡ host_on hart machine
-step_keeps hart stepping_hart machine enclave_runs enclave_runs_after = elim (cases_eq hart stepping_hart) [
+any_step_keeps_context hart stepping_hart machine enclave_runs enclave_runs_after = elim (cases_eq hart stepping_hart) [
   -- the stepping hart keeps its saved host context
   | inl is_stepping_hart ↦
       subst
@@ -118,7 +121,7 @@ steps_keep hart [] machine runs_through = refl
 steps_keep hart (stepping_hart ∷ harts) machine (enclave_runs, runs_through_rest) =
     let after = (step_of stepping_hart machine).state in
     steps_keep hart harts after runs_through_rest
-    ∙ step_keeps hart stepping_hart machine enclave_runs (first_runs hart harts after runs_through_rest)
+    ∙ any_step_keeps_context hart stepping_hart machine enclave_runs (first_runs hart harts after runs_through_rest)
 
 -- a hart that runs an enclave through a list of steps runs an enclave after the last step
 pub last_runs : (hart : ℕ) (harts : List ℕ) (machine : MonitoredMachine) → RunsThrough hart harts machine
@@ -147,9 +150,10 @@ entered_is hart machine invariant host_runs enclave_runs_after =
     let in_range = entering_hart_in_range hart machine enclave_runs_after in
     let step_is = step_of_view hart machine in_range in
     let view = hart_view hart machine in
-    let keeps = (invariant.hart_states hart in_range).host in
+    let host_context_invariant = (invariant.hart_states hart in_range).host in
     ap (λ (after : HartViewStepped). after.state.hart_state.host_context) step_is
-    ∙ entry_saves_host view (monitored_step view) (switch_law view keeps (host_stored view.hart_state keeps host_runs)) host_runs
+    ∙ entry_saves_host view (monitored_step view) (switch_law view host_context_invariant
+    (host_stored view.hart_state host_context_invariant host_runs)) host_runs
     (sym (ap (λ (after : HartViewStepped). is_host after.state.hart_state.world) step_is) ∙ enclave_runs_after)
 
 -- the exit restores the saved context of the host

@@ -39,6 +39,7 @@ pub record LeavesFor (hart_state : HartState) (trap : Trap) (result : Handled) :
   pub mode : result.next.mode ≡ (saved_host hart_state).mode
   -- the S-mode registers are those of the saved context
   pub supervisor : s_context result.hart_state.hart.csrs ≡ s_context (with_s_context hart_state.hart.csrs (saved_host hart_state).supervisor)
+  -- the hart no longer has a saved context of the host
   pub forgotten : result.hart_state.host_context ≡ None
   pub entered : result.next.entered ≡ None
 
@@ -83,9 +84,12 @@ context_legal_by_result : (hart_state : HartState) (trap : Trap) (result : Handl
     → HostContextIsLegal hart_state
     → KeepsOwn hart_state.hart.csrs
     → HostContextIsLegal result.hart_state
+-- the world continues, and the saved context of the host is unchanged
 context_legal_by_result hart_state trap result (inl stays) legal keeps_own = subst KeptStored (sym stays.host) legal
+-- an entry saves the S-mode registers of the hart, whose values the hart can store
 context_legal_by_result hart_state trap result (inr (inl enters)) legal keeps_own =
     subst KeptStored (sym enters.host) (own_context_legal hart_state.hart.csrs keeps_own)
+-- an exit leaves no saved context of the host
 context_legal_by_result hart_state trap result (inr (inr leaves)) legal keeps_own =
     subst KeptStored (sym leaves.forgotten) tt
 
@@ -99,14 +103,16 @@ handler_keeps_legal hart_state shared trap legal keeps_own =
 -- ---- if an enclave runs before and after, the host's saved context is unchanged
 
 -- a result after which an enclave runs keeps the saved context of the host, if an enclave ran before
-host_context_kept : (hart_state : HartState) (trap : Trap) (result : Handled) → StaysEntersOrExits hart_state trap result
+host_context_unchanged : (hart_state : HartState) (trap : Trap) (result : Handled) → StaysEntersOrExits hart_state trap result
     → is_host hart_state.world ≡ false
     → is_host result.hart_state.world ≡ false
     → result.hart_state.host_context ≡ hart_state.host_context
-host_context_kept hart_state trap result (inl stays) enclave_runs enclave_runs_after = stays.host
-host_context_kept hart_state trap result (inr (inl enters)) enclave_runs enclave_runs_after =
+host_context_unchanged hart_state trap result (inl stays) enclave_runs enclave_runs_after = stays.host
+-- an enclave runs before the trap, so the result is not an entry from the host
+host_context_unchanged hart_state trap result (inr (inl enters)) enclave_runs enclave_runs_after =
     absurd (both_ways _ enclave_runs (ap is_host enters.from_host))
-host_context_kept hart_state trap result (inr (inr leaves)) enclave_runs enclave_runs_after =
+-- an enclave runs after the trap handler, so the result is not an exit to the host
+host_context_unchanged hart_state trap result (inr (inr leaves)) enclave_runs enclave_runs_after =
     absurd (both_ways _ enclave_runs_after (ap is_host leaves.world))
 
 -- a step before and after which an enclave runs keeps the saved context of the host
@@ -119,7 +125,7 @@ enclave_step_keeps_host view enclave_runs =
     (λ no_trap enclave_runs_after. refl)
     (λ trap trapped enclave_runs_after.
     let hart_state = hart_state_after view.hart_state trap in
-    host_context_kept hart_state trap (handled hart_state view.shared trap)
+    host_context_unchanged hart_state trap (handled hart_state view.shared trap)
     (handled_stays_or_switches hart_state view.shared trap) enclave_runs enclave_runs_after)
 
 -- ---- the step
@@ -166,8 +172,8 @@ module _ (view : HartView) (host_invariant : HostContextInvariant view.hart_stat
       let CanGoOnIfSome : Option Context → Type 0 =
       λ saved_host. IfSome saved_host (λ some_context. can_go_on some_context ≡ true) in
       let can_continue : can_go_on host ≡ true = subst CanGoOnIfSome host_context_is host_invariant.held in
-      let host_stored : IsLegal host.supervisor = subst KeptStored host_context_is legal in
-      let host_leaves = rw host_context_is at leaves in
+      let host_context_legal : IsLegal host.supervisor = subst KeptStored host_context_is legal in
+      let leaves_for_host = rw host_context_is at leaves in
       inr (inr (record {
         slot = slot;
         host = host;
@@ -175,15 +181,15 @@ module _ (view : HartView) (host_invariant : HostContextInvariant view.hart_stat
         from_enclave = world_is;
         kept = host_context_is;
         trapped = outcome_trap_is;
-        world = host_leaves.world;
+        world = leaves_for_host.world;
         -- the registers, pc, mode and S-mode registers of the hart are those of the saved context, except for a0 and a1
         again =
             same_context host result.hart_state.hart.regs (aligned_to_4 result.next.pc) result.next.mode
-            (s_context result.hart_state.hart.csrs) _ host_leaves.regs
-            (ap aligned_to_4 host_leaves.pc ∙ pc_is_aligned host.mode host.pc can_continue) host_leaves.mode
-            (host_leaves.supervisor ∙ restored_context_same view.hart_state.hart.csrs host.supervisor host_stored);
-        forgotten = host_leaves.forgotten;
-        entered = host_leaves.entered;
+            (s_context result.hart_state.hart.csrs) _ leaves_for_host.regs
+            (ap aligned_to_4 leaves_for_host.pc ∙ pc_is_aligned host.mode host.pc can_continue) leaves_for_host.mode
+            (leaves_for_host.supervisor ∙ restored_context_same view.hart_state.hart.csrs host.supervisor host_context_legal);
+        forgotten = leaves_for_host.forgotten;
+        entered = leaves_for_host.entered;
       }))
 
   -- the return from each kind of result satisfies `StaysOrSwitches`
@@ -192,8 +198,10 @@ module _ (view : HartView) (host_invariant : HostContextInvariant view.hart_stat
       → StaysOrSwitches view (returned outcome result)
   return_stays_or_switches outcome result outcome_trap_is (inl stays) =
       inl (record { world = stays.world; host = stays.host; entered = stays.entered })
+  -- the trap handler entered an enclave from the host
   return_stays_or_switches outcome result outcome_trap_is (inr (inl enters)) =
       inr (inl (record { slot = enters.slot; from_host = enters.from_host; world = enters.world; host = enters.host; entered = enters.entered }))
+  -- the trap handler exited to the host
   return_stays_or_switches outcome result outcome_trap_is (inr (inr leaves)) =
       return_leaves outcome result outcome_trap_is leaves view.hart_state.world view.hart_state.host_context refl refl host_invariant.kept
 
