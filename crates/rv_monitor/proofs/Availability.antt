@@ -44,6 +44,7 @@ stopped_enclave_is_destroyable table slot (Some info) table_length slot_is is_li
     let slot_in_range = live_in_range table slot info table_length slot_is in
     let written_record =
     at_written_slot table slot (Some (record info { state = Stopped })) (omega (arith, table_length, slot_in_range)) in
+    -- the written record is Stopped, and a destroy of a Stopped enclave has no refusal
     rw written_record refl
 
 -- proves that an enclave exits by the timer interrupt if the timer line of its hart is set

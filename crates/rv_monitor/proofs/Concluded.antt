@@ -11,9 +11,9 @@ pub concluded : (hart_state : HartState) (maybe_refusal : Option Refusal) (call_
     (λ refusal. (maybe_refusal ≡ Some refusal) × (after ≡ before))
     → option_case maybe_refusal (returned_to_caller hart_state performed 0 value) (refused hart_state before)
     ≡ result_case call_result (returned_to_caller hart_state after 0) (refused hart_state after)
--- the call is performed, because no condition for a refusal holds
+-- the call is performed, because no condition for a refusal holds; it returns the value and the state of the performed call
 concluded hart_state maybe_refusal (Ok result) before after performed value (no_refusal, value_is, shared_is) =
     rw (no_refusal, value_is, shared_is) refl
--- the call is refused
+-- the call is refused with the first refusal whose condition holds, and the shared state is unchanged
 concluded hart_state maybe_refusal (Err refusal) before after performed value (refusal_is, shared_is) =
     rw (refusal_is, shared_is) refl

@@ -34,11 +34,11 @@ equiv_itself enclave machine shared =
     record { harts = refl; hart_states = λ hart. record { world = refl; same = λ not_running. refl }; shared = shared }
 
 -- the same change of a hart of two equivalent machines leaves these machines equivalent, if the change keeps the world of the hart
-changed_in_range : (enclave hart : ℕ) (change : HartState → HartState) (one other : MonitoredMachine)
+changed_equiv_in_range : (enclave hart : ℕ) (change : HartState → HartState) (one other : MonitoredMachine)
     → ((hart_state : HartState) → (change hart_state).world ≡ hart_state.world)
     → hart < count_of one → EquivExcept enclave one other
     → EquivExcept enclave (changed hart change one) (changed hart change other)
-changed_in_range enclave hart change one other keeps_world in_range equiv =
+changed_equiv_in_range enclave hart change one other keeps_world in_range equiv =
     let first_changed = change (hart_state_of hart one) in
     let second_changed = change (hart_state_of hart other) in
     let same_harts = equiv.harts in
@@ -63,7 +63,7 @@ pub changed_equiv : (enclave hart : ℕ) (change : HartState → HartState) (one
     → ((hart_state : HartState) → (change hart_state).world ≡ hart_state.world)
     → EquivExcept enclave one other → EquivExcept enclave (changed hart change one) (changed hart change other)
 changed_equiv enclave hart change one other keeps_world equiv = elim (cases_lt hart (count_of one)) [
-  | inl in_range ↦ changed_in_range enclave hart change one other keeps_world in_range equiv
+  | inl in_range ↦ changed_equiv_in_range enclave hart change one other keeps_world in_range equiv
   -- no hart of the machine has this number
   | inr past_last ↦
       let same_harts = equiv.harts in

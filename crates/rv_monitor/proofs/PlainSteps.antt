@@ -35,6 +35,7 @@ find_none : (is_external is_software is_timer is_s_external is_s_software is_s_t
     (if is_s_software && false then Some SupervisorSoftware else (if is_s_timer && false then Some SupervisorTimer else None))))))
     ≡ None
 find_none is_external is_software is_timer is_s_external is_s_software is_s_timer =
+    -- no interrupt is enabled, so each of the six tests (`.. && false`) fails
     rw (and-false is_external, and-false is_software, and-false is_timer, and-false is_s_external, and-false is_s_software, and-false is_s_timer) refl
 
 -- below mode M, no interrupt is pending if mie is 0

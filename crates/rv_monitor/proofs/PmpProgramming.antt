@@ -15,6 +15,7 @@ pub reprogramming_changes_nothing : (table : Slots) (hart_state : HartState) →
 reprogramming_changes_nothing table hart_state hart_invariant =
     let entries = hart_invariant.layout.entries in
     let mie = hart_invariant.layout.mie in
+    -- the hart already has the PMP entries and mie that reprogramming writes
     rw (← entries, ← mie) refl
 
 -- reprogramming changes no hart, if each hart has the invariant
@@ -37,6 +38,7 @@ unfolding with_redirected_trap
 redirected_is_programmed hart_state shared trap is_programmed =
     let entries = ap (λ (hart_state : HartState). hart_state.hart.csrs.pmp) is_programmed in
     let mie = ap (λ (hart_state : HartState). hart_state.hart.csrs.mie) is_programmed in
+    -- a redirection keeps the PMP entries and mie, which are already those that reprogramming writes
     rw (entries, mie) refl
 
 -- ---- no earlier action of the trap handler writes a PMP entry

@@ -9,6 +9,7 @@ use Rattle.rv_monitor.proofs.Prelude.{length-set, reprogrammed, same_lists}
 
 -- the state of the loop: the first `count` hart states are reprogrammed, and the others are unchanged
 pub record AreProgrammed (table : Slots) (original current : List HartState) (count : ℕ) : Type 0 where
+  -- the loop keeps the number of hart states
   pub size : length current ≡ length original
   -- each hart state below `count` is reprogrammed
   pub done : (hart : ℕ) → hart < count → hart_state_in current hart ≡ reprogrammed table (hart_state_in original hart)

@@ -44,14 +44,18 @@ scrambled_if is_scrambled machine slot = if is_scrambled then scrambled_shared m
 pub scrambled_if_invariant : (is_scrambled : Bool) (machine : MonitoredMachine) (slot : ℕ)
     → is_scrambled ≡ can_scramble machine.shared.table slot → Invariant machine
     → Invariant (with_shared machine (scrambled_if is_scrambled machine slot))
+-- the slot is scrambled, so it may be scrambled
 scrambled_if_invariant true machine slot scrambled_if_permitted invariant = scramble_invariant machine slot invariant (sym scrambled_if_permitted)
+-- the slot is not scrambled, and the machine is unchanged
 scrambled_if_invariant false machine slot scrambled_if_permitted invariant = invariant
 
 -- the machine after a call of scramble, which may have had no effect, is equivalent except `slot` to the machine before the call
 pub scrambled_if_equiv : (is_scrambled : Bool) (machine : MonitoredMachine) (slot : ℕ)
     → is_scrambled ≡ can_scramble machine.shared.table slot → Invariant machine
     → EquivExcept slot machine (with_shared machine (scrambled_if is_scrambled machine slot))
+-- the slot is scrambled, so it may be scrambled
 scrambled_if_equiv true machine slot scrambled_if_permitted invariant = scramble_equiv machine slot invariant (sym scrambled_if_permitted)
+-- the slot is not scrambled, and the machine is unchanged
 scrambled_if_equiv false machine slot scrambled_if_permitted invariant = equiv_itself slot machine (itself slot machine.shared)
 
 -- proves that two scrambles restore the machine

@@ -11,11 +11,13 @@ use Rattle.rv_monitor.proofs.handler.handle.Goals.{in-Interrupt, in-Exception-En
 -- the call of `program_pmp` meets its `requires`: neither a stop by the timer nor a call writes a PMP entry
 pub program_pmp-requires : goal.program_pmp-requires
 program_pmp-requires c =
-    let P : HartState → Type 0 = λ hart_state. IsUnlocked hart_state.hart.csrs.pmp in
-    let still = λ (cause : Cause) (left : Handled). unlocked_before_reprogramming c.args.hart_state.now c.args.shared.now cause left in
+    let PmpIsUnlocked : HartState → Type 0 = λ hart_state. IsUnlocked hart_state.hart.csrs.pmp in
+    -- no PMP entry is locked after the handling of the cause, before the reprogramming
+    let still_unlocked = λ (cause : Cause) (left : Handled). unlocked_before_reprogramming c.args.hart_state.now c.args.shared.now cause left in
     elim c.match-trap.branch [
       | in-Interrupt w ↦
-          subst P (sym w.hart_state-is) (still (causes.Interrupt MachineTimer) _ w.stop_by_timer-next.ensures c.requires.unlocked)
+          subst PmpIsUnlocked (sym w.hart_state-is)
+          (still_unlocked (causes.Interrupt MachineTimer) _ w.stop_by_timer-next.ensures c.requires.unlocked)
       | in-Exception-EnvironmentCallFromS w ↦
-          subst P (sym w.hart_state-is) (still (causes.Exception EnvironmentCallFromS) _ w.call-next.ensures c.requires.unlocked)
+          subst PmpIsUnlocked (sym w.hart_state-is) (still_unlocked (causes.Exception EnvironmentCallFromS) _ w.call-next.ensures c.requires.unlocked)
     ]

@@ -6,4 +6,6 @@ use Rattle.rv_monitor.proofs.monitored_machine.all_at_start.Goals as goal
 
 -- `all_at_start` meets its contract
 pub returns : goal.returns
-returns c = array_is_map _ _ (numbered_hart_state_at_start c.args.entry) (λ i x q call. search rules) _ _ c.from_fn.ensures.items
+returns c =
+    -- each call of the closure returns the hart state at reset with its number, and the array has the results of these calls
+    array_is_map _ _ (numbered_hart_state_at_start c.args.entry) (λ hart hart_state closure_after call. search rules) _ _ c.from_fn.ensures.items

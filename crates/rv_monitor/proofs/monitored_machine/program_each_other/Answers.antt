@@ -9,6 +9,7 @@ pub returns : goal.returns
 returns c =
     let first = c.args.by_hart.now in
     let array_length : length first ≡ HARTS = search rules in
+    -- the loop ends at the number of harts, so all harts of the machine are programmed
     let end : c.loop-other.other ≡ c.args.harts = omega arith in
     all_programmed c.args.table.now first c.loop-other.by_hart c.args.harts
     (subst (AreProgrammed c.args.table.now first c.loop-other.by_hart) end c.loop-other.invariant) (omega (arith, array_length, c.requires.few))

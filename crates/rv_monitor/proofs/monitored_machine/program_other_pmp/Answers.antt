@@ -9,5 +9,6 @@ pub returns-else-harts-gt1 : goal.returns-else-harts-gt1
 returns-else-harts-gt1 c =
     let state_array = c.args.by_hart.now in
     let array_length : length state_array ≡ HARTS = search rules in
+    -- the only hart of the machine is already programmed (premise `own`), so nothing is to do
     single_hart_unchanged c.args.table.now state_array c.args.harts c.args.hart c.requires.has (omega (arith, c.if-harts-gt1.false))
     (omega (arith, array_length, c.requires.few)) c.requires.own

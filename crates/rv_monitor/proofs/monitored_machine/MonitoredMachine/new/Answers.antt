@@ -7,6 +7,7 @@ use Rattle.rv_monitor.proofs.monitored_machine.MonitoredMachine.new.Goals as goa
 -- `MonitoredMachine::new` meets clause `start` of its contract
 pub returns-clause-start : goal.returns-clause-start
 returns-clause-start c =
+    -- the array has the harts at reset, and the shared state is that at reset
     parts_represent_start c.args.ram c.args.entry c.args.harts _ _ _ c.count.ensures c.all_at_start.ensures (rw (c.new.ensures) refl)
 
 -- `MonitoredMachine::new` meets clause `reset` of its contract

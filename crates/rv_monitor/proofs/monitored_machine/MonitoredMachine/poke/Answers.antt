@@ -10,6 +10,7 @@ invariant_of-self c =
     let inside = c.self.inside in
     let (full_invariant, some_harts, at_most_max_harts) = c.self.invariant in
     let before = machine_of_parts inside.by_hart inside.harts inside.shared in (
+      -- a poke keeps the size of the memory
       record {
         monitor = invariant_by_size before c.poke.new.self full_invariant.monitor (sym c.poke.ensures.only.size);
         legal = full_invariant.legal;

@@ -18,6 +18,7 @@ pub returns-clause-harts : goal.returns-clause-harts
 returns-clause-harts c =
     let inside = c.self.inside in
     let new = c.run_fast_in.new in
+    -- fast steps do not change the number of harts
     subst (λ (machine : MonitoredMachine). count_of (machine_of_parts new.by_hart inside.harts new.shared) ≡ count_of machine) c.self.view_is
     (steps_count c.args.hart c.args.limits.now c.run_fast_in.result (machine_of_parts inside.by_hart inside.harts inside.shared)
     (machine_of_parts new.by_hart inside.harts new.shared) c.run_fast_in.ensures.steps)

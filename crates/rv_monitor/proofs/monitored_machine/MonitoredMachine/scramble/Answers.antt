@@ -12,8 +12,8 @@ invariant_of-self c =
     let (full_invariant, some_harts, at_most_max_harts) = c.self.invariant in
     let before : MonitoredMachine = machine_of_parts inside.by_hart inside.harts inside.shared in
     let scrambled = c.scramble.ensures in
-    let P : Shared → Type 0 = λ shared. Invariant (record before { shared = shared }) in
-    let invariant_after = subst P (sym scrambled.meaning)
+    let InvariantWith : Shared → Type 0 = λ shared. Invariant (record before { shared = shared }) in
+    let invariant_after = subst InvariantWith (sym scrambled.meaning)
     (scrambled_if_invariant c.scramble.result before c.args.slot scrambled.asked full_invariant.monitor) in
     (record { monitor = invariant_after; legal = full_invariant.legal }, some_harts, at_most_max_harts)
 
@@ -29,7 +29,7 @@ returns-clause-equivalent c =
     let enclave = c.args.slot in
     let (full_invariant, _, _) = c.self.invariant in
     let scrambled = c.scramble.ensures in
-    let P : Shared → Type 0 = λ shared. EquivExcept enclave before (record before { shared = shared }) in
-    let Q : MonitoredMachine → Type 0 = λ machine. EquivExcept enclave machine (record before { shared = c.scramble.new.self }) in
-    subst Q c.self.view_is (subst P (sym scrambled.meaning)
+    let BeforeEquivWith : Shared → Type 0 = λ shared. EquivExcept enclave before (record before { shared = shared }) in
+    let EquivToScrambled : MonitoredMachine → Type 0 = λ machine. EquivExcept enclave machine (record before { shared = c.scramble.new.self }) in
+    subst EquivToScrambled c.self.view_is (subst BeforeEquivWith (sym scrambled.meaning)
     (scrambled_if_equiv c.scramble.result before enclave scrambled.asked full_invariant.monitor))

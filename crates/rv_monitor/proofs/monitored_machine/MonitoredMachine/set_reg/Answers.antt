@@ -8,6 +8,7 @@ use Rattle.rv_monitor.proofs.monitored_machine.MonitoredMachine.set_reg.Goals as
 pub returns-clause-meaning : goal.returns-clause-meaning
 returns-clause-meaning c =
     let inside = c.self.inside in
+    -- the code changes one array element, so the represented machine changes in the state of this hart
     element_change_is_hart_change inside.by_hart c.set_reg_in.new.by_hart inside.harts c.args.hart inside.shared (reg_set c.args.reg c.args.value)
     c.args.self.now c.self.view_is c.requires c.set_reg_in.ensures
 
@@ -17,6 +18,7 @@ invariant_of-self c =
     let inside = c.self.inside in
     let machine = c.args.self.now in
     let hart = (hart_state_of c.args.hart machine).hart in
+    -- a write of the registers or of the timer line keeps the full invariant and the number of harts
     written_holds inside.by_hart c.set_reg_in.new.by_hart inside.harts c.args.hart inside.shared
     (with_register hart.regs c.args.reg c.args.value) hart.csrs.timer machine c.self.view_is c.requires c.self.invariant
     (returns-clause-meaning c)

@@ -7,6 +7,7 @@ use Rattle.rv_monitor.proofs.monitored_machine.MonitoredMachine.set_timer.Goals 
 pub returns-clause-meaning : goal.returns-clause-meaning
 returns-clause-meaning c =
     let inside = c.self.inside in
+    -- the code changes one array element, so the represented machine changes in the state of this hart
     element_change_is_hart_change inside.by_hart c.set_timer_in.new.by_hart inside.harts c.args.hart inside.shared (timer_line_set c.args.raised)
     c.args.self.now c.self.view_is c.requires c.set_timer_in.ensures
 
@@ -15,6 +16,7 @@ pub invariant_of-self : goal.invariant_of-self
 invariant_of-self c =
     let inside = c.self.inside in
     let machine = c.args.self.now in
+    -- a write of the registers or of the timer line keeps the full invariant and the number of harts
     written_holds inside.by_hart c.set_timer_in.new.by_hart inside.harts c.args.hart inside.shared
     (hart_state_of c.args.hart machine).hart.regs c.args.raised machine c.self.view_is c.requires c.self.invariant (returns-clause-meaning c)
 

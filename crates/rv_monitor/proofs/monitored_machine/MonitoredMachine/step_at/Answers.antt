@@ -24,6 +24,7 @@ returns-clause-laws g c =
     record { state = machine_of_parts c.step_in.new.by_hart inside.harts c.step_in.new.shared; outcome = c.step_in.result } in
     let (full_invariant, _, _) = c.self.invariant in
     let in_range = subst (λ (machine : MonitoredMachine). c.args.hart < count_of machine) (sym c.self.view_is) c.requires in
+    -- the code makes the step `step_of` (`meaning`), which obeys all laws of a step
     subst (λ (machine : MonitoredMachine). ObeysStepLaws c.args.hart machine after) c.self.view_is
     (subst (ObeysStepLaws c.args.hart before) c.step_in.ensures.meaning (step_laws c.args.hart before in_range full_invariant))
 
@@ -32,6 +33,7 @@ pub returns-clause-harts : goal.returns-clause-harts
 returns-clause-harts g c =
     let inside = c.self.inside in
     let before : MonitoredMachine = machine_of_parts inside.by_hart inside.harts inside.shared in
+    -- the step does not change the number of harts
     subst (λ (machine : MonitoredMachine). count_of
     (machine_of_parts c.step_in.new.by_hart inside.harts c.step_in.new.shared) ≡ count_of machine) c.self.view_is
     (subst (λ (after : MonitoredStepped). count_of after.state ≡ count_of before) c.step_in.ensures.meaning (step_count c.args.hart before))
