@@ -22,4 +22,6 @@ below_M mode mode_below_m mode_is_m =
 -- if MPRV is 0, then loads and stores use the mode of the hart
 pub data_below : (view : HartView) → HartViewInvariant view → is_machine (data_mode view.hart_state.hart) ≡ false
 data_below view view_invariant =
-    let mprv_is_clear = view_invariant.hart.layout.mprv in rw mprv_is_clear view_invariant.hart.layout.mode
+    let mprv_is_clear = view_invariant.hart.layout.mprv in
+    -- MPRV is 0, so the mode for data is the mode of the hart, which is below M
+    rw mprv_is_clear view_invariant.hart.layout.mode

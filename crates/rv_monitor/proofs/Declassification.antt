@@ -186,10 +186,12 @@ module _ (enclave hart : ℕ) (one other : MonitoredMachine) (invariant_one : In
   -- a low step has equal outcomes in both machines, and leaves the machines related
   low_step : IsLowStep enclave hart one other → Outcomes × Related
   low_step low_both_steps = elim (cases_Bool (runs one.shared.table enclave)) [
+    -- the enclave has the state Running
     | inl running ↦
         let (outcomes_equal, related_after) =
         low_while_running enclave hart one other invariant_one invariant_other related low_both_steps running in
         (λ not_running. outcomes_equal, related_after)
+    -- the enclave is not Running, so the machines are equivalent except `enclave` in the guest view
     | inr idle ↦
         let equiv = related_equiv enclave one other related (λ running. absurd (both_ways _ idle running)) in
         let step = guest_step_equiv enclave hart one other invariant_one invariant_other equiv low_both_steps.low in (

@@ -95,6 +95,7 @@ pub record Alike (first_slot second_slot : ℕ) (first_view second_view : HartVi
   pub hart : below_m_hart first_view.hart_state.hart ≡ below_m_hart second_view.hart_state.hart
   -- the records of both enclaves are equal
   pub slot : slot_at first_view.shared.table first_slot ≡ slot_at second_view.shared.table second_slot
+  -- the memories are equal
   pub memory : first_view.shared.memory ≡ second_view.shared.memory
 
 -- the enclaves of two slots run on two harts with equal memories and equal records, and with equal harts as S and U see them
@@ -199,9 +200,11 @@ module _ (first_slot second_slot : ℕ) (first_state second_state : HartState) (
   pub same_may_store : (byte : ℕ) → may_store first_shared.memory first_state.hart.csrs.pmp byte
       ≡ may_store first_shared.memory second_state.hart.csrs.pmp byte
   same_may_store byte = elim (cases_Bool (is_inside first_shared.memory byte 1)) [
+    -- a byte in memory has the same permission on both harts
     | inl inside ↦
         let permits_byte = same_permissions S Write byte Byte refl inside in
         ap (λ (is_permitted : Bool). is_inside first_shared.memory byte 1 && is_permitted) permits_byte
+    -- a byte outside memory cannot be stored on either hart
     | inr outside ↦ rw outside refl
   ]
 

@@ -28,9 +28,11 @@ use Rattle.rv_monitor.proofs.HandlerCases.{requested-is_offered, handler_cases, 
 
 -- two shared states have equal tables, equal contexts of `slot`, and equal bytes in the region and window of `slot`
 pub record SharedFor (slot : ℕ) (one other : Shared) : Type 0 where
+  -- the tables are equal
   pub table : one.table ≡ other.table
   -- the bytes of the region and of the window are equal
   pub memory : EqualOutside (is_beyond one.table slot) one.memory other.memory
+  -- the saved contexts of `slot` are equal
   pub context : context_at one.contexts slot ≡ context_at other.contexts slot
 
 -- ---- what is accessible to an enclave is in its region or its window
@@ -40,14 +42,17 @@ accessible_in_region_or_window : (memory : List ℕ) (table : Slots) (slot : ℕ
     → is_accessible memory table (Enclave slot) access bytes ≡ true
     → (list_all (has (region table slot)) bytes ≡ true) ⊎ (list_all (has (window table slot)) bytes ≡ true)
 unfolding is_accessible
+-- an enclave may fetch only from its region
 accessible_in_region_or_window memory table slot Fetch bytes accessible =
     elim (or_cases _ _ accessible) [ inl all_in_region ↦ inl all_in_region | inr contradiction ↦ cc ]
+-- an enclave may read its region and its window
 accessible_in_region_or_window memory table slot Read bytes accessible = elim (or_cases _ _ accessible) [
   | inl all_in_region ↦ inl all_in_region
   -- if the bytes are not all in the region, then they are all in the window
   | inr not_in_region ↦
       elim (or_cases _ _ not_in_region) [ inl all_in_window ↦ inr all_in_window | inr contradiction ↦ cc ]
 ]
+-- an enclave may write its region and its window
 accessible_in_region_or_window memory table slot Write bytes accessible = elim (or_cases _ _ accessible) [
   | inl all_in_region ↦ inl all_in_region
   -- if the bytes are not all in the region, then they are all in the window
@@ -218,8 +223,11 @@ module _ (slot : ℕ) (hart_state : HartState) (runs_enclave : hart_state.world 
 
 -- two steps have equal outcomes and equal hart states, and leave shared states that are equal for enclave `slot`
 pub record OwnAlike (slot : ℕ) (one other : HartViewStepped) : Type 0 where
+  -- the outcomes are equal
   pub outcome : one.outcome ≡ other.outcome
+  -- the hart states after the steps are equal
   pub hart_state : one.state.hart_state ≡ other.state.hart_state
+  -- the shared states after the steps satisfy `SharedFor`
   pub shared : SharedFor slot one.state.shared other.state.shared
 
 -- a byte within the region or window of `slot` after a change was within them before, if `slot` keeps its region and window

@@ -34,10 +34,14 @@ rest csrs = unswitched (guest_csrs csrs)
 
 -- the saved context of the host, the CSRs that no context switch replaces, the table, the saved contexts and the size of memory are unchanged
 record StaysBehind (before : HartView) (after : HartViewStepped) : Type 0 where
+  -- the saved context of the host is unchanged
   host : before.hart_state.host_context ≡ after.state.hart_state.host_context
   rest : rest before.hart_state.hart.csrs ≡ rest after.state.hart_state.hart.csrs
+  -- the table is unchanged
   table : before.shared.table ≡ after.state.shared.table
+  -- the saved contexts of the enclaves are unchanged
   contexts : before.shared.contexts ≡ after.state.shared.contexts
+  -- the size of the memory is unchanged
   size : length before.shared.memory ≡ length after.state.shared.memory
 
 -- the CSRs that no context switch replaces do not depend on what `machine_parts` leaves out
@@ -161,13 +165,17 @@ module _ (slot : ℕ) (view : HartView) (view_invariant : HartViewInvariant view
 
 -- the machine after the step differs only in the hart of the enclave and in the bytes of its region and window
 pub record Unchanged (enclave hart : ℕ) (before after : MonitoredMachine) : Type 0 where
+  -- the number of harts is unchanged
   pub harts : count_of before ≡ count_of after
   -- the states of the other harts are unchanged
   pub others : (other_hart : ℕ) → other_hart ≢ hart → hart_state_of other_hart before ≡ hart_state_of other_hart after
   -- the hart keeps its saved context of the host, and the CSRs that no context switch replaces
   pub behind : SameHostOn hart before after
+  -- the table is unchanged
   pub table : before.shared.table ≡ after.shared.table
+  -- the saved contexts of the enclaves are unchanged
   pub contexts : before.shared.contexts ≡ after.shared.contexts
+  -- the size of the memory is unchanged
   pub size : length before.shared.memory ≡ length after.shared.memory
   -- each byte outside the region and the window of `enclave` is unchanged
   pub bytes : (byte : ℕ) → is_beyond before.shared.table enclave byte ≡ true

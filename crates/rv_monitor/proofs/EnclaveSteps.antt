@@ -129,8 +129,9 @@ module _ (first_slot second_slot : ℕ) (hart : Hart) (m_csrs : CsrState) (pc : 
       → ResultsAlike (called first_at_trap first_shared call) (called second_at_trap second_shared call)
   unfolding called performed left
   call_alike Measure offered =
-      let rows = same_measure_refusals in
-      rw rows
+      -- the measure has the same refusals for both enclaves
+      let refusals_equal = same_measure_refusals in
+      rw refusals_equal
       (refusal_alike (first_refusal (call_refusals first_at_trap first_shared Measure)) (performed first_at_trap first_shared Measure)
       (performed second_at_trap second_shared Measure) measure_alike)
   call_alike Stop offered = record { outcome = refl; hosts = refl; runs = λ runs_after. cc }

@@ -94,7 +94,9 @@ equiv_from_guests enclave hart one other invariant_one invariant_other equiv =
 
 -- two steps have equal outcomes, and leave machines that are equivalent in the guest view
 pub record GuestStepEquiv (enclave : ℕ) (one other : MonitoredStepped) : Type 0 where
+  -- the outcomes are equal
   pub outcome : one.outcome ≡ other.outcome
+  -- the machines after the steps are equivalent except `enclave` in the guest view
   pub state : EquivToGuests enclave one.state other.state
 
 -- low steps of two machines that are equivalent in the guest view have equal outcomes, and leave machines that are equivalent in the guest view

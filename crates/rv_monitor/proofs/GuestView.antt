@@ -99,8 +99,11 @@ module _ (mcycle minstret : ℕ) (hart_state : HartState) (shared : Shared) wher
 
 -- two steps of a view have the same outcome, the same shared state and the same guest state
 record SameGuestStep (one other : HartViewStepped) : Type 0 where
+  -- the outcomes are equal
   outcome : one.outcome ≡ other.outcome
+  -- the shared states after the steps are equal
   shared : one.state.shared ≡ other.state.shared
+  -- the guest states of the hart after the steps are equal
   hart_state : guest_state one.state.hart_state ≡ guest_state other.state.hart_state
 
 -- the return from the trap handler with other counters is the same to guests

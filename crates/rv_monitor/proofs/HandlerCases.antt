@@ -72,7 +72,9 @@ shared_of table memory contexts = record { memory = memory; table = table; conte
 
 -- the trap is an ecall from S, and requests this call
 pub record Requests (hart_state : HartState) (cause : Cause) (call : Call) : Type 0 where
+  -- the cause is an ecall from S
   pub is_call : cause ≡ causes.Exception EnvironmentCallFromS
+  -- the registers of the hart request the call
   pub asked : requested_call hart_state.world hart_state.hart.regs ≡ Some call
 
 -- the context that the monitor saves when an enclave exits by this cause, from the state of the hart at the trap
@@ -194,7 +196,9 @@ module _ (hart_state : HartState) (trap : Trap) (table : Slots) (memory other_me
     -- the claim holds for a call, refused or not
     by-refusal : (maybe_refusal : Option Refusal) (one other : Handled) → (maybe_refusal ≡ None → Claim one other)
         → Claim (option_case maybe_refusal one (refused hart_state first_shared)) (option_case maybe_refusal other (refused hart_state second_shared))
+    -- no refusal applies, so the results are those of the accepted call
     by-refusal None one other claim_if_accepted = claim_if_accepted refl
+    -- the refused call returns the status of the refusal
     by-refusal (Some refusal) one other claim_if_accepted = cases.answers (status_of refusal) 0
 
     -- the claim holds for a requested call with its refusals
@@ -202,13 +206,15 @@ module _ (hart_state : HartState) (trap : Trap) (table : Slots) (memory other_me
         → HoldsForBoth (λ shared. called hart_state shared call)
     unfolding called
     by-called call requests =
-        let rows = same-refusals call in
-        rw (← rows) (by-refusal (first_refusal (call_refusals hart_state first_shared call)) _ _ (by-accepted call requests))
+        -- the call has the same refusals in both shared states
+        let refusals_equal = same-refusals call in
+        rw (← refusals_equal) (by-refusal (first_refusal (call_refusals hart_state first_shared call)) _ _ (by-accepted call requests))
 
     -- the claim holds for an ecall from S that requests a call, and for one that requests no call
     by-call : (maybe_call : Option Call) → requested_call hart_state.world hart_state.hart.regs ≡ maybe_call
         → trap.cause ≡ causes.Exception EnvironmentCallFromS
         → HoldsForBoth (λ shared. option_case maybe_call (refused hart_state shared NotSupported) (called hart_state shared))
+    -- an ecall that requests no call is refused with `NotSupported`
     by-call None requested by_ecall = cases.answers (status_of NotSupported) 0
     by-call (Some call) requested by_ecall = by-called call (record { is_call = by_ecall; asked = requested })
 

@@ -201,21 +201,24 @@ reads_alike_at_trap cause hart_state trap one other same_reads = record {
 
 -- two steps of a view leave equal hart states and enter the same slot, and equal bytes and contexts stay equal
 record SameHartStep (one other : Shared) (one_after other_after : HartViewStepped) : Type 0 where
+  -- the hart states after the steps are equal
   hart_state : one_after.state.hart_state ≡ other_after.state.hart_state
+  -- the steps enter the same slot, or none
   entered : one_after.outcome.entered ≡ other_after.outcome.entered
+  -- bytes and saved contexts that are equal before the steps are equal after the steps
   shared : SameWhereSame one other one_after.state.shared other_after.state.shared
 
 -- the returns from two equal results of the trap handler are equal
-returned_same : (one other : Shared) (outcome other_outcome : StepOutcome) (result other_result : Handled)
+same_after_returns : (one other : Shared) (outcome other_outcome : StepOutcome) (result other_result : Handled)
     → SameHandling one other result other_result
     → SameHartStep one other (returned outcome result) (returned other_outcome other_result)
-returned_same one other outcome other_outcome result other_result same_reads =
+same_after_returns one other outcome other_outcome result other_result same_handling =
     let returned_by : HartState → Next → HartState =
     λ hart_state next. record hart_state { hart = returned_to hart_state.hart next.pc next.mode } in
     record {
-      hart_state = ap₂ returned_by same_reads.hart_state same_reads.next;
-      entered = ap (λ (next : Next). next.entered) same_reads.next;
-      shared = same_reads.shared;
+      hart_state = ap₂ returned_by same_handling.hart_state same_handling.next;
+      entered = ap (λ (next : Next). next.entered) same_handling.next;
+      shared = same_handling.shared;
     }
 
 -- two steps with the same trap are equal, if the trap handler reads the same in both
@@ -231,7 +234,7 @@ same_step hart_state one other trap trapped second_trapped same_reads =
     let handled_alike =
     handler_reads_law (hart_state_after hart_state trap) trap one other (reads_alike_at_trap trap.cause hart_state trap one other same_reads) in
     rw (trapped_step first_view trap trapped, trapped_step second_view trap second_trapped)
-    (returned_same one other (step (bare_machine first_view)).outcome (step (bare_machine second_view)).outcome _ _ handled_alike)
+    (same_after_returns one other (step (bare_machine first_view)).outcome (step (bare_machine second_view)).outcome _ _ handled_alike)
 
 -- proves that the effect of a step with a trap depends only on what the trap handler reads
 pub step_reads_law : (hart : ℕ) (machine : MonitoredMachine) → ReadsOnly hart machine (step_of hart machine)
@@ -254,14 +257,14 @@ step_reads_law hart machine other trap hart_states trapped second_trapped same_r
     -- after a trap, all harts are reprogrammed for the new table, and the stepping hart gets its new state
     let states_after : List HartState → Slots → HartState → List HartState =
     λ hart_states slots hart_state. slice_set (map (reprogrammed slots) hart_states) hart hart_state in
-    let table = view_steps.shared.table in
+    let tables_equal = view_steps.shared.table in
     let after_first = (monitored_step (hart_view hart machine)).state in
     let after_second = (monitored_step (hart_view hart other)).state in
     record {
       -- both machines trap, so the step of each is the step of its view, with all harts reprogrammed
       hart_states = ap (λ (machine : MonitoredMachine). machine.hart_states) first_trapping.state
           ∙ ap (λ (hart_states : List HartState). states_after hart_states after_first.shared.table after_first.hart_state) hart_states
-          ∙ ap₂ (states_after other.hart_states) table view_steps.hart_state
+          ∙ ap₂ (states_after other.hart_states) tables_equal view_steps.hart_state
           ∙ sym (ap (λ (machine : MonitoredMachine). machine.hart_states) second_trapping.state);
       entered =
           ap (λ (outcome : Outcome). outcome.entered) first_trapping.outcome ∙ view_steps.entered

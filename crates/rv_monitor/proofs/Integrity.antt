@@ -26,7 +26,9 @@ use Rattle.rv_monitor.proofs.Records.{new_state_keeps_other_slot}
 
 -- the record and the saved context of the slot are unchanged
 record KeepsSlot (slot_number : ℕ) (before after : Shared) : Type 0 where
+  -- the record of the slot is unchanged
   pub slot : slot_at after.table slot_number ≡ slot_at before.table slot_number
+  -- the saved context of the slot is unchanged
   pub context : context_at after.contexts slot_number ≡ context_at before.contexts slot_number
 
 -- a new state and a new saved context of one slot leave each other slot unchanged
@@ -129,12 +131,14 @@ region_byte_unchanged view slot byte view_invariant not_running live_after in_re
     elim (changes view view_invariant byte) [
       -- a byte that no instruction and no call changed
       | inl unchanged ↦ unchanged
+      -- a byte that the instruction stored, or that a call changed
       | inr changed ↦ elim changed [
         -- the instruction can store only bytes that are accessible to the running world, and the region of another enclave is not
         | inl stored ↦
             absurd
             (both_ways _ (outside_other_regions stored.span.addr
             (bytes_in stored.span.len) slot valid not_running stored.accessible byte stored.low stored.high) in_region)
+        -- the call is a destroy or a measure
         | inr call ↦ elim call.change [
           -- a destroy zeroes the region of the destroyed enclave, which is not live after the step, or is another enclave with another region
           | inl destroyed ↦ elim (cases_eq slot (register view.hart_state.hart.regs 10)) [

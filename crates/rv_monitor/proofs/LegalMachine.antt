@@ -87,7 +87,9 @@ exit_saves_legal_context (causes.Exception exception) hart_state legal =
 
 -- the S-mode registers and all saved contexts are legal after the trap handler
 record LegalAfterHandler (result : Handled) : Type 0 where
+  -- the S-mode registers of the hart are legal
   supervisor : RegistersAreLegal result.hart_state.hart.csrs
+  -- every saved context is legal
   contexts : ContextsAreLegal result.shared.contexts
 
 -- the S-mode registers, mepc and all saved contexts are legal at the trap
@@ -139,7 +141,9 @@ module _ (hart_state : HartState) (shared : Shared) (trap : Trap) (legal : Regis
 record ViewIsLegal (view : HartView) : Type 0 where
   -- pc is a multiple of 4
   pc : aligned_to_4 view.hart_state.hart.pc ≡ view.hart_state.hart.pc
+  -- the S-mode registers of the hart are legal
   supervisor : IsLegal (s_context view.hart_state.hart.csrs)
+  -- every saved context is legal
   contexts : ContextsAreLegal view.shared.contexts
 
 -- a step of a view leaves pc, the S-mode registers and the saved contexts legal

@@ -64,9 +64,11 @@ use Rattle.rv_monitor.proofs.LifePoints.{saved_continues}
 record StaysAtPoint (slot : ℕ) (context : Context) (before after : MonitoredMachine) : Type 0 where
   -- the enclave continues with `context` after the step
   continues : ContinuesWith slot context after
+  -- the enclave is live after the step
   live : is_live after.shared.table slot ≡ true
   -- the region, the window, the entry and the measurement of the enclave are unchanged
   identity : identity_at after.shared.table slot ≡ identity_at before.shared.table slot
+  -- the size of the memory is unchanged
   size : length after.shared.memory ≡ length before.shared.memory
   -- each byte of the region is unchanged
   bytes : (index : ℕ) → has (region before.shared.table slot) (ram_base + index) ≡ true
@@ -274,7 +276,7 @@ module _ (slot hart : ℕ) (machine : MonitoredMachine) (context : Context) (inv
     ]
     -- a step of another world enters the enclave, or leaves the enclave undisturbed
     | inr not_running ↦ elim (cases_Bool (enters slot (step_of hart machine).outcome.entered)) [
-      | inl entered ↦ stays_after_entry entered
+      | inl enters_slot ↦ stays_after_entry enters_slot
       | inr not_entered ↦ stays_if_undisturbed not_running not_entered
     ]
   ]
@@ -563,7 +565,9 @@ module _ (place other_place : Place) (one other : MonitoredMachine) (invariant_o
   -- the context with which both enclaves continue after the step
   record ContinueAlike : Type 0 where
     context : Context
+    -- the first enclave continues with `context` in the first machine after the step
     first : ContinuesWith first_slot context (step_at place one).state
+    -- the second enclave continues with `context` in the second machine after the step
     second : ContinuesWith second_slot context (step_at other_place other).state
 
   -- both enclaves continue with the same context after the step

@@ -59,6 +59,7 @@ equal_outside_differing memory other_memory same_length = record {
 
 -- `enclave` runs on this hart
 pub record RunsSomewhere (enclave : ℕ) (machine : MonitoredMachine) : Type 0 where
+  -- a hart on which the enclave runs
   pub hart : ℕ
   pub runs : runs_on enclave hart machine ≡ true
 

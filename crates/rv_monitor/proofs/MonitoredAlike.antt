@@ -24,8 +24,11 @@ view_of hart_state shared = record { hart_state = hart_state; shared = shared }
 
 -- two steps of a view have equal outcomes, and leave views that are equivalent except `enclave`
 record StepsEquiv (enclave : ℕ) (one other : HartViewStepped) : Type 0 where
+  -- the outcomes are equal
   pub outcome : one.outcome ≡ other.outcome
+  -- the hart states after the steps are equivalent except `enclave`
   pub hart_state : HartStatesEquivExcept enclave one.state.hart_state other.state.hart_state
+  -- the shared states after the steps are equivalent except `enclave`
   pub shared : SharedEquivExcept enclave one.state.shared other.state.shared
 
 -- the end of the step, with or without a trap, leaves views that are equivalent except `enclave`

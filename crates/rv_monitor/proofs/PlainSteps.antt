@@ -42,6 +42,7 @@ find_none is_external is_software is_timer is_s_external is_s_software is_s_time
 pending_is_none : (csrs : CsrState) (mode : Mode) → is_machine mode ≡ false → csrs.mie ≡ 0 → pending csrs mode ≡ None
 pending_is_none csrs mode mode_below_m disabled =
     let mip = mip_word csrs in
+    -- the mode is below M, and mie enables no interrupt
     rw (mode_below_m, disabled) (find_none (is_set mip 11) (is_set mip 3) (is_set mip 7) (is_set mip 9) (is_set mip 1) (is_set mip 5))
 
 -- ---- the laws
@@ -50,14 +51,14 @@ pending_is_none csrs mode mode_below_m disabled =
 pub steps_plainly : (hart : ℕ) (machine : MonitoredMachine) → StepsPlainly hart machine (step_of hart machine)
 steps_plainly hart machine in_range =
     let view = hart_view hart machine in
-    let outcome : (step_of hart machine).outcome.step ≡ (step (bare_machine view)).outcome =
+    let outcome_is : (step_of hart machine).outcome.step ≡ (step (bare_machine view)).outcome =
     ap (λ (after : HartViewStepped). after.outcome.step) (step_of_view hart machine in_range) ∙ same_outcome view in
     record {
-      outcome = outcome;
+      outcome = outcome_is;
       -- without a trap, the trap handler does not run, and no hart is reprogrammed
       quiet = λ no_trap.
           let bare_step_untrapped : (step (bare_machine view)).outcome.trap ≡ None =
-          sym (ap (λ (outcome : StepOutcome). outcome.trap) outcome) ∙ no_trap in
+          sym (ap (λ (outcome : StepOutcome). outcome.trap) outcome_is) ∙ no_trap in
           -- the step of the view is the bare step
           let view_step_is =
           step_without_trap view (ap (λ (outcome : StepOutcome). outcome.trap) (same_outcome view) ∙ bare_step_untrapped) in

@@ -122,16 +122,22 @@ stored_size (Some span) bytes memory after (_, write_is) = length-write memory s
 
 -- The tables and the saved contexts of two shared states are equal. Their memories result from `memory` and `other_memory` by the same changes.
 pub record SharedOver (memory other_memory : List ℕ) (one other : Shared) : Type 0 where
+  -- the tables are equal
   pub table : one.table ≡ other.table
+  -- the saved contexts are equal
   pub contexts : one.contexts ≡ other.contexts
+  -- the memories have the same size
   pub size : length one.memory ≡ length other.memory
   -- each byte is unchanged from both original memories, or equal in both shared states
   pub changes : ChangeAlike memory other_memory one.memory other.memory
 
 -- Two results of the trap handler are equal except for their memories. These result from `memory` and `other_memory` by the same changes.
 record HandledOver (memory other_memory : List ℕ) (result other_result : Handled) : Type 0 where
+  -- the hart states after the trap handler are equal
   hart_state : result.hart_state ≡ other_result.hart_state
+  -- both results continue at the same pc in the same mode, and enter the same slot or none
   next : result.next ≡ other_result.next
+  -- the shared states after the trap handler are equal, except for memories that change alike
   shared : SharedOver memory other_memory result.shared other_result.shared
 
 -- create is offered only to the host
@@ -269,8 +275,11 @@ module _ (hidden : ℕ → Bool) (hart_state : HartState) (trap : Trap) (table :
 
 -- two steps of a view have equal outcomes and hart states, and shared states that satisfy `SharedOver`
 record StepOver (memory other_memory : List ℕ) (stepped other_stepped : HartViewStepped) : Type 0 where
+  -- the outcomes are equal
   outcome : stepped.outcome ≡ other_stepped.outcome
+  -- the hart states after the steps are equal
   hart_state : stepped.state.hart_state ≡ other_stepped.state.hart_state
+  -- the shared states after the steps are equal, except for memories that change alike
   shared : SharedOver memory other_memory stepped.state.shared other_stepped.state.shared
 
 -- the shared state with another memory
@@ -408,8 +417,11 @@ over_bytes machine memory = record machine { shared = record machine.shared { me
 
 -- two steps have equal outcomes and hart states, and shared states that satisfy `SharedOver`
 pub record MachineOver (memory other_memory : List ℕ) (one other : MonitoredStepped) : Type 0 where
+  -- the outcomes are equal
   pub outcome : one.outcome ≡ other.outcome
+  -- the hart states after the steps are equal
   pub hart_states : one.state.hart_states ≡ other.state.hart_states
+  -- the shared states after the steps are equal, except for memories that change alike
   pub shared : SharedOver memory other_memory one.state.shared other.state.shared
 
 -- a step that reads and measures no hidden byte has the same effect over each memory that is equal outside the hidden bytes

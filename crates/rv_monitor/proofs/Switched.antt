@@ -15,23 +15,30 @@ use Rattle.rv_monitor.proofs.HandlerCases.{handler_cases}
 
 -- the trap handler continues the world: it keeps the world and the saved context of the host, and enters no enclave
 pub record StaysIn (hart_state : HartState) (result : Handled) : Type 0 where
+  -- the hart keeps its world
   pub world : result.hart_state.world ≡ hart_state.world
+  -- the saved context of the host is unchanged
   pub host : result.hart_state.host_context ≡ hart_state.host_context
+  -- no slot is entered
   pub entered : result.next.entered ≡ None
 
 -- the trap handler enters an enclave from the host, and saves the context of the host
 pub record EntersFrom (hart_state : HartState) (result : Handled) : Type 0 where
+  -- the slot of the enclave that the trap handler enters
   pub slot : ℕ
   -- the host runs before the trap, and the enclave runs after the trap handler
   pub from_host : hart_state.world ≡ Host
   pub world : result.hart_state.world ≡ Enclave slot
   -- the hart saves the context of the host, which will continue in S after its ecall
   pub host : result.hart_state.host_context ≡ Some (saved hart_state.hart (past_call hart_state) S)
+  -- the result reports the entry of the slot
   pub entered : result.next.entered ≡ Some slot
 
 -- the trap handler exits to the host: it restores the saved context of the host, with a reason in a0 and a value in a1
 pub record LeavesFor (hart_state : HartState) (trap : Trap) (result : Handled) : Type 0 where
+  -- the host runs after the trap handler
   pub world : result.hart_state.world ≡ Host
+  -- the registers are those of the saved context of the host, with the reason in a0 and the value in a1
   pub regs : result.hart_state.hart.regs
       ≡ with_return_values (saved_host hart_state).regs (reason trap.cause hart_state.hart.regs) (value trap.cause hart_state.hart.regs)
   -- the hart continues at the pc and in the mode of the saved context
@@ -41,6 +48,7 @@ pub record LeavesFor (hart_state : HartState) (trap : Trap) (result : Handled) :
   pub supervisor : s_context result.hart_state.hart.csrs ≡ s_context (with_s_context hart_state.hart.csrs (saved_host hart_state).supervisor)
   -- the hart no longer has a saved context of the host
   pub forgotten : result.hart_state.host_context ≡ None
+  -- no slot is entered
   pub entered : result.next.entered ≡ None
 
 -- the trap handler continues the world, enters an enclave, or exits to the host

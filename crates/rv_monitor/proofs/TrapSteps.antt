@@ -34,7 +34,9 @@ by-end : (view : HartView) (Claim : HartViewStepped → Type 0) (maybe_trap : Op
     (maybe_trap ≡ None → Claim (unhandled outcome hart_state shared))
     → ((trap : Trap) → maybe_trap ≡ Some trap → Claim (returned outcome (handled (hart_state_after view.hart_state trap) view.shared trap)))
     → Claim (option_case maybe_trap (unhandled outcome hart_state shared) (λ trap. returned outcome (handled hart_state shared trap))))
+-- without a trap, the bare step is the whole step
 by-end view Claim None outcome hart memory keeps claim_without_trap claim_with_trap = claim_without_trap refl
+-- a trap leaves the memory unchanged, and the hart that `hart_after` gives
 by-end view Claim (Some trap) outcome hart memory (hart_at_trap_is, memory_unchanged) claim_without_trap claim_with_trap =
     rw (hart_at_trap_is, memory_unchanged) (claim_with_trap trap refl)
 
