@@ -146,11 +146,11 @@ redirects_step hart machine invariant trap trapped is_redirection =
     let state = hart_view hart machine in
     let (view_state_is, view_entered_none) =
     step_is_redirected state (hart_view_invariant hart machine invariant trapping.has) trap trapping.trapped is_redirection in
-    let redirected_state : HartState = record state.hart_state { hart = redirected_hart state.hart_state.hart trap } in (
+    let left : HartState = record state.hart_state { hart = redirected_hart state.hart_state.hart trap } in (
       -- a redirected trap keeps the table, so the reprogramming leaves the other harts unchanged
       trapping.state ∙ ap (programmed_by hart machine) view_state_is
           ∙ ap (λ (hart_states : List HartState). let after : MonitoredMachine =
-          record { hart_states = slice_set hart_states hart redirected_state; shared = machine.shared } in after)
+          record { hart_states = slice_set hart_states hart left; shared = machine.shared } in after)
           (programmed_harts_unchanged machine.shared.table machine.hart_states invariant.hart_states),
       ap (λ (outcome : Outcome). outcome.entered) trapping.outcome ∙ view_entered_none,
     )

@@ -13,7 +13,7 @@ use Rattle.rv_monitor.proofs.HandlerCases.{handler_cases_of_both, entering, cont
 
 -- each effect of the trap handler leaves the two shared states equivalent except `enclave`
 module _ (enclave : ℕ) (table : Slots) (memory other_memory : List ℕ) (contexts other_contexts : Contexts)
-    (effects_alike : WorksAlike enclave (shared_of table memory contexts) (shared_of table other_memory other_contexts))
+    (cases : WorksAlike enclave (shared_of table memory contexts) (shared_of table other_memory other_contexts))
     (hart_state : HartState) (trap : Trap) where
   -- the shared state with the first memory and the first saved contexts
   abbrev first_shared : Shared
@@ -24,10 +24,10 @@ module _ (enclave : ℕ) (table : Slots) (memory other_memory : List ℕ) (conte
   second_shared = shared_of table other_memory other_contexts
 
   -- a return to the caller gives equivalent results, if the shared states after the call are equivalent except `enclave`
-  return_alike : (one other : Shared) (status result : ℕ) → SharedEquivExcept enclave one other
+  returned_alike : (one other : Shared) (status result : ℕ) → SharedEquivExcept enclave one other
       → HandledAlike enclave (with_reprogrammed_hart (returned_to_caller hart_state one status result))
       (with_reprogrammed_hart (returned_to_caller hart_state other status result))
-  return_alike one other status result shared_equiv = record {
+  returned_alike one other status result shared_equiv = record {
     entered = refl;
     hart_state = record {
       world = refl;
@@ -43,12 +43,12 @@ module _ (enclave : ℕ) (table : Slots) (memory other_memory : List ℕ) (conte
       → HandledAlike enclave (with_reprogrammed_hart (entering hart_state first_shared)) (with_reprogrammed_hart (entering hart_state second_shared))
   unfolding entered_slot
   other_entry_alike a0_is_other =
-      let contexts_equal = effects_alike.contexts (a0 hart_state) a0_is_other in
+      let contexts_equal = cases.contexts (a0 hart_state) a0_is_other in
       -- both shared states have the same saved context of the slot in a0
       rw (← contexts_equal) (record {
         entered = refl;
         hart_state = record { world = refl; same = λ not_running. refl };
-        shared = effects_alike.switches (a0 hart_state) states.Running None;
+        shared = cases.switches (a0 hart_state) states.Running None;
       })
 
   -- an entry of `enclave` gives equivalent results
@@ -59,7 +59,7 @@ module _ (enclave : ℕ) (table : Slots) (memory other_memory : List ℕ) (conte
     entered = refl;
     hart_state =
         record { world = refl; same = λ not_running. absurd (both_ways _ not_running (eq-eqb (a0 hart_state) enclave a0_is_enclave)) };
-    shared = effects_alike.switches (a0 hart_state) states.Running None;
+    shared = cases.switches (a0 hart_state) states.Running None;
   }
 
   -- an entry of the slot in a0 gives equivalent results
@@ -79,7 +79,7 @@ module _ (enclave : ℕ) (table : Slots) (memory other_memory : List ℕ) (conte
     entered = refl;
     hart_state = record { world = refl; same = λ not_running. refl };
     shared =
-        effects_alike.switches (running_slot hart_state.world) (enclave_state_after trap.cause hart_state.hart.regs)
+        cases.switches (running_slot hart_state.world) (enclave_state_after trap.cause hart_state.hart.regs)
         (Some (context_saved_by trap.cause hart_state));
   }
 
@@ -89,25 +89,24 @@ module _ (enclave : ℕ) (table : Slots) (memory other_memory : List ℕ) (conte
   handled_alike =
       -- `WorksAlike` gives equivalent shared states for each effect; a call returns a status and a value
       handler_cases_of_both hart_state trap table memory other_memory contexts other_contexts (HandledAlike enclave) (record {
-        answers = λ status result. return_alike first_shared second_shared status result effects_alike.before;
+        answers = λ status result. returned_alike first_shared second_shared status result cases.before;
         creates =
-            λ requests no_refusal. return_alike _ _ 0 (new_slot table) (effects_alike.creates (create_args_of hart_state.hart.regs) no_refusal);
-        destroys = λ requests slot_accepted. return_alike _ _ 0 0 (effects_alike.destroys (a0 hart_state) slot_accepted);
-        measures =
-            λ requests no_refusal. return_alike _ _ 0 0 (effects_alike.measures (measured_slot hart_state.world (a0 hart_state)) (a1 hart_state));
+            λ requests no_refusal. returned_alike _ _ 0 (new_slot table) (cases.creates (create_args_of hart_state.hart.regs) no_refusal);
+        destroys = λ requests slot_accepted. returned_alike _ _ 0 0 (cases.destroys (a0 hart_state) slot_accepted);
+        measures = λ requests no_refusal. returned_alike _ _ 0 0 (cases.measures (measured_slot hart_state.world (a0 hart_state)) (a1 hart_state));
         enters = λ call requests is_entry_call from_host slot_accepted. entry_alike;
         leaves = exit_alike;
         redirects =
-            record { entered = refl; hart_state = record { world = refl; same = λ not_running. refl }; shared = effects_alike.before };
+            record { entered = refl; hart_state = record { world = refl; same = λ not_running. refl }; shared = cases.before };
       })
 
 -- proves the noninterference of the trap handler, by case analysis
 pub handler_law : HandlerLaw
 handler_law enclave worlds hart_state one other trap shared_invariant_one shared_invariant_other not_running equiv =
     let tables_equal = equiv.table in
-    let effects_alike = works_alike enclave one other worlds shared_invariant_one shared_invariant_other equiv in
-    let effects_alike_over_table =
-    subst (λ (table : Slots). WorksAlike enclave one (shared_of table other.memory other.contexts)) (sym tables_equal) effects_alike in
+    let cases = works_alike enclave one other worlds shared_invariant_one shared_invariant_other equiv in
+    let cases_over_table =
+    subst (λ (table : Slots). WorksAlike enclave one (shared_of table other.memory other.contexts)) (sym tables_equal) cases in
     subst (λ (table : Slots). HandledAlike enclave (handled hart_state one trap)
     (handled hart_state (shared_of table other.memory other.contexts) trap)) tables_equal
-    (handled_alike enclave one.table one.memory other.memory one.contexts other.contexts effects_alike_over_table hart_state trap equiv.memory.size)
+    (handled_alike enclave one.table one.memory other.memory one.contexts other.contexts cases_over_table hart_state trap equiv.memory.size)

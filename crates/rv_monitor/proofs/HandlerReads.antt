@@ -127,10 +127,10 @@ module _ (table : Slots) (memory other_memory : List ℕ) (contexts other_contex
     requested_call_is call requests = let is_call = requests.is_call in rw is_call requests.asked
 
     -- a return to the caller gives equal results
-    same_return : (one other : Shared) (status result : ℕ) → StaySame one other
+    caller_same : (one other : Shared) (status result : ℕ) → StaySame one other
         → ResultsSame (with_reprogrammed_hart (returned_to_caller hart_state one status result))
         (with_reprogrammed_hart (returned_to_caller hart_state other status result))
-    same_return one other status result stay_same =
+    caller_same one other status result stay_same =
         record {
           hart_state =
               ap (λ (table : Slots). reprogrammed table (returned_to_caller hart_state one status result).hart_state) stay_same.table;
@@ -159,12 +159,12 @@ module _ (table : Slots) (memory other_memory : List ℕ) (contexts other_contex
     same_results =
         -- each case gives equal results, because the trap handler reads equal bytes and equal contexts
         handler_cases_of_both hart_state trap table memory other_memory contexts other_contexts ResultsSame (record {
-          answers = λ status result. same_return first_shared second_shared status result same_if_unchanged;
+          answers = λ status result. caller_same first_shared second_shared status result same_if_unchanged;
           creates =
-              λ requests no_refusal. same_return _ _ 0 (new_slot table)
+              λ requests no_refusal. caller_same _ _ 0 (new_slot table)
               (same_after_create (create_args_of hart_state.hart.regs) (same_read.measured (requested_call_is Create requests)));
-          destroys = λ requests slot_accepted. same_return _ _ 0 0 (same_after_destroy (a0 hart_state));
-          measures = λ requests no_refusal. same_return _ _ 0 0 (same_after_measure (measured_slot hart_state.world (a0 hart_state)) (a1 hart_state));
+          destroys = λ requests slot_accepted. caller_same _ _ 0 0 (same_after_destroy (a0 hart_state));
+          measures = λ requests no_refusal. caller_same _ _ 0 0 (same_after_measure (measured_slot hart_state.world (a0 hart_state)) (a1 hart_state));
           enters =
               λ call requests is_entry_call from_host slot_accepted. same_entry (same_read.entered (entering_call call is_entry_call requests));
           leaves =
