@@ -506,7 +506,9 @@ module _ (place other_place : Place) (one other : MonitoredMachine) (invariant_o
   -- the first enclave is live after the step
   live_after : is_live after_one.shared.table first_slot ≡ true
   live_after = elim (cases_Bool (runs_at place after_one)) [
+    -- an enclave that still runs is live
     | inl runs_still ↦ running_is_live first_slot place.hart after_one invariant_after_one runs_still
+    -- an enclave that has exited has a saved context, so it is live
     | inr has_left ↦
         saved_enclave_is_live first_slot after_one (same_own_step.state.exits has_left).saved.context invariant_after_one
         (same_own_step.state.exits has_left).saved.first
@@ -520,7 +522,9 @@ module _ (place other_place : Place) (one other : MonitoredMachine) (invariant_o
   own_bytes_equal : (index : ℕ) → is_beyond after_one.shared.table first_slot (ram_base + index) ≡ false
       → slice_index after_one.shared.memory index ≡ slice_index after_mixed.shared.memory index
   own_bytes_equal index byte_within = elim (cases_Bool (runs_at place after_one)) [
+    -- the enclaves have the same state again, so their own bytes are equal
     | inl runs_still ↦ (same_own_step.state.runs runs_still).memory.bytes index byte_within
+    -- the enclaves have exited alike, and their own bytes are equal after the exits
     | inr has_left ↦ (same_own_step.state.exits has_left).saved.memory.bytes index byte_within
   ]
 
@@ -551,10 +555,12 @@ module _ (place other_place : Place) (one other : MonitoredMachine) (invariant_o
   -- both slots have the same record after the step
   same_record_after : slot_at after_one.shared.table first_slot ≡ slot_at after_other.shared.table second_slot
   same_record_after =
-      let table = ap (λ (table : Slots). slot_at table second_slot) same_over_memory.shared.table in
+      let tables_equal = ap (λ (table : Slots). slot_at table second_slot) same_over_memory.shared.table in
       elim (cases_Bool (runs_at place after_one)) [
-        | inl runs_still ↦ (same_own_step.state.runs runs_still).slot ∙ table
-        | inr has_left ↦ (same_own_step.state.exits has_left).saved.slot ∙ table
+        -- the enclaves have the same state again, so their records are equal
+        | inl runs_still ↦ (same_own_step.state.runs runs_still).slot ∙ tables_equal
+        -- the enclaves have exited alike, and their records are equal after the exits
+        | inr has_left ↦ (same_own_step.state.exits has_left).saved.slot ∙ tables_equal
       ]
 
   -- the hart has the same state after the step in the mixed machine and in the second machine
