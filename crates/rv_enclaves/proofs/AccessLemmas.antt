@@ -227,9 +227,10 @@ accessible_apart memory table world access start size slot table_valid runs_othe
     elim (accessible_cases memory table world access (bytes_from start size) accessible) [
       -- the host runs: its bytes are in no region
       | inl (host_runs, all_of_host) ↦
-          let (_, in_no_region) =
-          and_parts (not (has monitor_block address)) (not (is_in_region table address))
-          (and_parts (is_inside memory address 1) _ (each_from_all (host_has memory table) start size all_of_host address from_start before_end)).1 in
+          -- a byte of the host is in RAM, outside the monitor's range and in no region
+          let (in_ram, outside_blocks) =
+          and_parts (is_inside memory address 1) _ (each_from_all (host_has memory table) start size all_of_host address from_start before_end) in
+          let (outside_monitor, in_no_region) = and_parts (not (has monitor_block address)) (not (is_in_region table address)) outside_blocks in
           false_from_ne_true _ (λ in_its_region. both_ways _
           (none_from_any (λ other. has (region table other) address) 0 slot_count (not-true _ in_no_region) slot (omega arith)
           (slot_in_range memory table world slot address table_valid in_its_region))
@@ -385,28 +386,40 @@ module _ (memory : List ℕ) (table : Slots) (world : World) (mode : Mode) (acce
   -- entry 15 of the layout permits the host to access the bytes that belong to the host
   permitted_by_host : is_host world ≡ true → list_all (host_has memory table) bytes ≡ true → permits (verdict entries mode access bytes) ≡ true
   permitted_by_host host_runs all_of_host =
-      let each_of_host_only : (address : ℕ) → start ≤ address → address < start + size
-      → (has monitor_block address ≡ false) × (is_in_region table address ≡ false) = λ address from_start before_end.
-      let (outside_monitor, outside_regions) =
-      and_parts (not (has monitor_block address)) (not (is_in_region table address))
-      (and_parts (is_inside memory address 1) _ (each_from_all (host_has memory table) start size all_of_host address from_start before_end)).1 in
-      (not-true _ outside_monitor, not-true _ outside_regions) in
+      -- each accessed byte of the host is in RAM, and outside the monitor's range and all regions
+      let outside_blocks : (address : ℕ) → start ≤ address → address < start + size
+      → (not (has monitor_block address) && not (is_in_region table address)) ≡ true = λ address from_start before_end.
+      let (_, outside) =
+      and_parts (is_inside memory address 1) _ (each_from_all (host_has memory table) start size all_of_host address from_start before_end) in
+      outside in
+      let each_outside_monitor : (address : ℕ) → start ≤ address → address < start + size → has monitor_block address ≡ false =
+      λ address from_start before_end.
+      let (outside_monitor, _) =
+      and_parts (not (has monitor_block address)) (not (is_in_region table address)) (outside_blocks address from_start before_end) in
+      not-true _ outside_monitor in
+      let each_in_no_region : (address : ℕ) → start ≤ address → address < start + size → is_in_region table address ≡ false =
+      λ address from_start before_end.
+      let (_, in_no_region) =
+      and_parts (not (has monitor_block address)) (not (is_in_region table address)) (outside_blocks address from_start before_end) in
+      not-true _ in_no_region in
+      let (_, to_ram_end) = inside in
       -- entry 15 covers every byte and grants the access, and each lower entry covers none of the bytes
       permitted_if_granted 15 (lit< tt)
       (all_each (covers entries 15) start size
-      (λ address from_start before_end. covers_host memory table world ram_size table_valid address (omega (arith, inside.1, ram_size)) ∙ host_runs))
+      (λ address from_start before_end.
+      covers_host memory table world ram_size table_valid address (omega (arith, to_ram_end, ram_size)) ∙ host_runs))
       (grants_if_cfg 15 _ cfg_of-host ∙ host_entry_permits_host world access host_runs)
       (λ lower is_lower. elim (entry_cases lower (omega arith)) [
-        | inl is_monitor ↦
-            rw is_monitor
-            (any_monitor
-            ∙ any_none (has monitor_block) start size (λ address from_start before_end. (each_of_host_only address from_start before_end).0))
+        -- entry 0 covers only bytes of the monitor's range
+        | inl is_monitor ↦ rw is_monitor (any_monitor ∙ any_none (has monitor_block) start size each_outside_monitor)
         | inr not_monitor ↦ elim not_monitor [
+          -- the entry of a slot covers only bytes of the region of this slot
           | inl (other, other_in_bounds, is_other_entry) ↦
               rw is_other_entry (any_slot other other_in_bounds ∙ any_none (has (region table other)) start size (λ address from_start before_end.
-              none_from_any (λ slot. has (region table slot) address) 0 slot_count (each_of_host_only address from_start before_end).1 other
+              none_from_any (λ slot. has (region table slot) address) 0 slot_count (each_in_no_region address from_start before_end) other
               (omega arith) (omega (arith, other_in_bounds))))
           | inr from_window ↦ elim from_window [
+            -- entry 14 covers no byte, because the host has no window
             | inl is_window ↦
                 rw is_window
                 (any_window ∙ any_none (has (world_window table world)) start size

@@ -207,7 +207,10 @@ module _ (enclave : ℕ) (table : Slots) (one_memory other_memory : List ℕ) (o
       → is_inside one_memory (region_of maybe_info).base (region_of maybe_info).size ≡ true
   unfolding is_valid_block
   region_inside None slot_valid is_present = cc
-  region_inside (Some info) slot_valid is_present = (and_parts _ _ (and_parts (is_block_size info.region.size) _ slot_valid.region).1).1
+  region_inside (Some info) slot_valid is_present =
+      let (size_is_permitted, aligned_and_inside) = and_parts (is_block_size info.region.size) _ slot_valid.region in
+      let (base_is_aligned, region_is_inside) = and_parts _ _ aligned_and_inside in
+      region_is_inside
 
   -- a destroy that the monitor does not refuse leaves two equivalent shared states equivalent except `enclave`
   pub destroyed_alike : (slot : ℕ) → IsValid one_memory table → SlotIsAccepted table calls.Destroy slot
@@ -260,7 +263,7 @@ module _ (enclave : ℕ) (table : Slots) (one_memory other_memory : List ℕ) (o
       SharedEquivExcept enclave (record one { table = after; contexts = with_context one_contexts slot maybe_context })
       (record other { table = after; contexts = with_context other_contexts slot maybe_context }))
   switched_alike table_length slot state maybe_context =
-      let live_with_region = state_keeps table_length slot state in
+      let (same_region, still_live) = state_keeps table_length slot state in
       equiv_with_region (with_state table slot state) one_memory other_memory (with_context one_contexts slot maybe_context)
-      (with_context other_contexts slot maybe_context) live_with_region.0 live_with_region.1 equal_outside
+      (with_context other_contexts slot maybe_context) same_region still_live equal_outside
       (contexts_with enclave one_contexts other_contexts slot maybe_context saved)

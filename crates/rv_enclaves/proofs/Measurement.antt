@@ -86,8 +86,8 @@ are_words : (memory : List ℕ) (info : SlotInfo) → length memory ≤ 0x100000
 are_words memory info ram_size slot_valid =
     let region_end = block_words memory info.region ram_size slot_valid.region in
     let window_end = window_words memory info.window ram_size slot_valid.window in
-    let entry_bounds = and_parts (nat_le info.region.base info.entry) _ slot_valid.entry in
-    let entry_in_region = ltb-true info.entry (info.region.base + info.region.size) entry_bounds.1 in
+    let (entry_from_base, entry_before_end) = and_parts (nat_le info.region.base info.entry) _ slot_valid.entry in
+    let entry_in_region = ltb-true info.entry (info.region.base + info.region.size) entry_before_end in
     record {
       base = omega (arith, region_end);
       size = omega (arith, region_end);
@@ -117,7 +117,10 @@ block_byte memory block memory_index inside from_base before_end =
 -- a valid block is inside memory
 pub valid_inside : (memory : List ℕ) (block : Block) → is_valid_block memory block ≡ true → is_inside memory block.base block.size ≡ true
 unfolding is_valid_block
-valid_inside memory block valid_block = (and_parts (block.base % block.size == 0) _ (and_parts _ _ valid_block).1).1
+valid_inside memory block valid_block =
+    let (size_is_permitted, aligned_and_inside) = and_parts _ _ valid_block in
+    let (base_is_aligned, block_is_inside) = and_parts (block.base % block.size == 0) _ aligned_and_inside in
+    block_is_inside
 
 -- if a valid block has the same bytes in two memories, then the memories are equal at each address of the block
 same_bytes : (one_memory other_memory : List ℕ) (block : Block) (memory_index : ℕ) → is_valid_block one_memory block ≡ true

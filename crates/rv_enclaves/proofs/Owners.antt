@@ -101,7 +101,9 @@ region_covers memory world slot (Some info) previous address ram_size slot_valid
 nonempty_window_is_block : (memory : List ℕ) (block : Block) → is_window memory block ≡ true → block.size ≢ 0 → is_valid_block memory block ≡ true
 unfolding is_window
 nonempty_window_is_block memory block is_window_valid nonempty = elim (or_cases (block.base == 0 && block.size == 0) _ is_window_valid) [
-  | inl is_empty ↦ absurd (nonempty (eqb-true _ _ (and_parts (block.base == 0) _ is_empty).1))
+  | inl is_empty ↦
+      let (base_is_0, size_is_0) = and_parts (block.base == 0) _ is_empty in
+      absurd (nonempty (eqb-true _ _ size_is_0))
   | inr well_formed ↦ well_formed
 ]
 

@@ -31,7 +31,7 @@ pub verdict_cases : (entries : Entries) (mode : Mode) (access : Access) (bytes :
 unfolding verdict matching_entry
 verdict_cases entries mode access bytes = elim (find_cases (λ entry. list_any (covers entries entry) bytes) 0 16) [
   | inl (entry, find_is, first_match) ↦ inl (entry, ap (verdict_by entries mode access bytes) find_is, first_match)
-  | inr none_matches ↦ inr (ap (verdict_by entries mode access bytes) none_matches.0)
+  | inr (find_is, none_matches) ↦ inr (ap (verdict_by entries mode access bytes) find_is)
 ]
 
 -- a test holds for all 32 numbers from `first` to `first + 32` if and only if it holds for 32 numbers from `start` on, if `first` is `start`

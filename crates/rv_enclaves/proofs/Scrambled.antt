@@ -22,7 +22,7 @@ use Rattle.rv_enclaves.proofs.Valid.{valid_by_size}
 inside_agrees : (memory : List ℕ) (block : Block) → is_inside memory block.base block.size ≡ true
     → EqualOutside (has block) memory (with_complements memory (block.base - ram_base) block.size)
 inside_agrees memory block inside =
-    let bounds = inside-bounds memory block.base block.size inside in
+    let (from_ram_base, to_ram_end) = inside-bounds memory block.base block.size inside in
     let index = block.base - ram_base in
     let fits = inside-index memory block.base block.size inside in
     record {
@@ -34,9 +34,9 @@ inside_agrees memory block inside =
           -- an index in the block: its address is hidden, against the premise
           | inl before_end ↦
               let from_base : nat_le block.base (ram_base + byte_index) ≡ true =
-              le-leb block.base (ram_base + byte_index) (omega (arith, bounds.0)) in
+              le-leb block.base (ram_base + byte_index) (omega (arith, from_ram_base)) in
               let before_block_end : nat_lt (ram_base + byte_index) (block.base + block.size) ≡ true =
-              lt-ltb (ram_base + byte_index) (block.base + block.size) (omega (arith, bounds.0)) in
+              lt-ltb (ram_base + byte_index) (block.base + block.size) (omega (arith, from_ram_base)) in
               let contradiction : true ≡ false = sym (and_from _ _ from_base before_block_end) ∙ not_hidden in cc
           -- an index after the block
           | inr after_end ↦ sym (above memory index block.size byte_index fits after_end)
@@ -160,7 +160,9 @@ module _ (shared : Shared) (worlds : List World) (slot : ℕ) (shared_invariant 
 -- proves that scramble preserves the invariant and changes only what is private to `slot`
 pub scrambled_law : ScrambledLaw
 scrambled_law shared worlds slot shared_invariant may_scramble = record {
-  not_running = (slot_rests (slot_at shared.table slot) may_scramble).1;
+  not_running =
+      let (is_live, not_running) = slot_rests (slot_at shared.table slot) may_scramble in
+      not_running;
   sound = scrambled_sound shared worlds slot shared_invariant may_scramble;
   equivalent = scrambled_agrees shared worlds slot shared_invariant may_scramble;
 }

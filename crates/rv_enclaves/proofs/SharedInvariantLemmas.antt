@@ -59,10 +59,10 @@ module _ (shared : Shared) (worlds after_worlds : List World) (slot : ℕ) (mayb
   other_context_unchanged other is_other = at_other_slot shared.contexts slot other maybe_context is_other
 
   -- after the change, a slot has a saved context if and only if its enclave is live and does not run
-  saved_after : (each_slot : ℕ)
+  saved_if_held_after : (each_slot : ℕ)
       → is_some (context_at (with_context shared.contexts slot maybe_context) each_slot)
       ≡ is_held (slot_at (with_slot shared.table slot maybe_info) each_slot)
-  saved_after each_slot = elim (cases_eq each_slot slot) [
+  saved_if_held_after each_slot = elim (cases_eq each_slot slot) [
     | inl is_slot ↦
         rw is_slot (ap (λ (maybe_context : Option Context). is_some maybe_context) new_context_at ∙ saved_if_held ∙ ap is_held (sym new_slot_at))
     | inr is_other ↦
@@ -72,8 +72,9 @@ module _ (shared : Shared) (worlds after_worlds : List World) (slot : ℕ) (mayb
   ]
 
   -- after the change, a hart can continue with each saved context
-  held_after : (each_slot : ℕ) → IfSome (context_at (with_context shared.contexts slot maybe_context) each_slot) (λ context. can_go_on context ≡ true)
-  held_after each_slot =
+  can_continue_after : (each_slot : ℕ)
+      → IfSome (context_at (with_context shared.contexts slot maybe_context) each_slot) (λ context. can_go_on context ≡ true)
+  can_continue_after each_slot =
       let CanContinue : Option Context → Type 0 = λ maybe_context. IfSome maybe_context (λ context. can_go_on context ≡ true) in
       elim (cases_eq each_slot slot) [
         | inl is_slot ↦ rw is_slot (subst CanContinue (sym new_context_at) can_continue)
@@ -81,8 +82,8 @@ module _ (shared : Shared) (worlds after_worlds : List World) (slot : ℕ) (mayb
       ]
 
   -- after the change, a slot is Running if and only if it is the world of some hart
-  running_after : (each_slot : ℕ) → runs (with_slot shared.table slot maybe_info) each_slot ≡ list_any (is_world_of each_slot) after_worlds
-  running_after each_slot = elim (cases_eq each_slot slot) [
+  runs_if_world_after : (each_slot : ℕ) → runs (with_slot shared.table slot maybe_info) each_slot ≡ list_any (is_world_of each_slot) after_worlds
+  runs_if_world_after each_slot = elim (cases_eq each_slot slot) [
     | inl is_slot ↦ rw is_slot (ap running_in new_slot_at ∙ runs_if_world)
     | inr is_other ↦
         ap running_in (other_slot_unchanged each_slot is_other) ∙ shared_invariant.running each_slot ∙ others_unchanged each_slot is_other
@@ -98,10 +99,10 @@ module _ (shared : Shared) (worlds after_worlds : List World) (slot : ℕ) (mayb
         (valid_with shared.memory shared.table slot maybe_info shared_invariant.valid slot_in_bounds fits);
     contexts = record {
       count = length-set shared.contexts slot maybe_context ∙ shared_invariant.contexts.count;
-      kept = saved_after;
-      held = held_after;
+      kept = saved_if_held_after;
+      held = can_continue_after;
     };
-    running = running_after;
+    running = runs_if_world_after;
     apart = worlds_apart;
   }
 
@@ -123,22 +124,25 @@ pub record IsFreeSlot (table : Slots) (slot : ℕ) : Type 0 where
   pub free : slot_at table slot ≡ None
 
 -- an optional value that passes the test `is_none` is None
-none_from : {A : Type 0} (option : Option A) → is_none option ≡ true → option ≡ None
-none_from None no_value = refl
-none_from (Some x) no_value = cc
+is_None_from_test : {A : Type 0} (option : Option A) → is_none option ≡ true → option ≡ None
+is_None_from_test None no_value = refl
+is_None_from_test (Some x) no_value = cc
 
 -- the number that a search of a range finds is in the range, and passes the test
 found_number_passes : (test : ℕ → Bool) (start count number : ℕ) → find test (range_with_len start count) ≡ Some number
     → (number < start + count) × (test number ≡ true)
-found_number_passes test start zero number found = cc
-found_number_passes test start (suc count) number found = elim (cases_Bool (test start)) [
-  | inl holds ↦
-      let found_start : Some start ≡ Some number = sym (cond-true (test start) _ _ holds) ∙ found in
+found_number_passes test start zero number search_finds = cc
+found_number_passes test start (suc count) number search_finds = elim (cases_Bool (test start)) [
+  -- the first number of the range passes the test: it is the number that the search finds
+  | inl start_passes ↦
+      let found_start : Some start ≡ Some number = sym (cond-true (test start) _ _ start_passes) ∙ search_finds in
       let start_is_number : start ≡ number = cc in
-      (omega arith, rw start_is_number at holds)
-  | inr fails ↦
-      let found_start : find test (range_with_len (start + 1) count) ≡ Some number = sym (cond-false (test start) _ _ fails) ∙ found in
-      let (before_end, passes) = found_number_passes test (start + 1) count number found_start in
+      (omega arith, rw start_is_number at start_passes)
+  -- the first number fails the test: the search finds the number in the rest of the range
+  | inr start_fails ↦
+      let found_in_rest : find test (range_with_len (start + 1) count) ≡ Some number =
+      sym (cond-false (test start) _ _ start_fails) ∙ search_finds in
+      let (before_end, passes) = found_number_passes test (start + 1) count number found_in_rest in
       (omega (arith, before_end), passes)
 ]
 
@@ -147,7 +151,7 @@ pub free_slot_from : (table : Slots) (slot : ℕ) → free_slot table ≡ Some s
 unfolding free_slot
 free_slot_from table slot free_slot_is =
     let (before_end, is_free) = found_number_passes (λ candidate. is_none (slot_at table candidate)) 0 slot_count slot free_slot_is in
-    record { in_range = omega arith; free = none_from (slot_at table slot) is_free }
+    record { in_range = omega arith; free = is_None_from_test (slot_at table slot) is_free }
 
 -- a measurement has 32 bytes
 length_measurement : (memory : List ℕ) (new : CreateArgs) → length (measurement_of memory new) ≡ 32
@@ -284,11 +288,11 @@ measured_sound shared worlds slot address shared_invariant =
 with_state_is : (table : Slots) (slot : ℕ) (info : SlotInfo) (state : EnclaveState) → slot_at table slot ≡ Some info
     → with_state table slot state ≡ with_slot table slot (Some (record info { state = state }))
 with_state_is table slot info state slot_is =
-    ap (λ maybe_info. option_case maybe_info table (λ found. with_slot table slot (Some (record found { state = state })))) slot_is
+    ap (λ maybe_info. option_case maybe_info table (λ old_info. with_slot table slot (Some (record old_info { state = state })))) slot_is
 
--- `other_worlds` has the worlds of the other harts. The world of the hart that switches changes from the host to enclave k, or back.
+-- `other_worlds` has the worlds of the other harts. The world of the hart that switches changes from the host to the enclave in `slot`, or back.
 module _ (other_worlds : List World) where
-  -- the switch to enclave k changes for no other enclave whether it is among the worlds
+  -- the switch from the host to the enclave in `slot` changes for no other enclave whether it is among the worlds
   other_worlds_unchanged : (other slot : ℕ) → other ≢ slot
       → list_any (is_world_of other) (Host ∷ other_worlds) ≡ list_any (is_world_of other) (Enclave slot ∷ other_worlds)
   other_worlds_unchanged other slot is_other =
@@ -310,16 +314,18 @@ module _ (other_worlds : List World) where
       (Enclave slot ∷ other_worlds)
   entered_sound shared slot info shared_invariant slot_is not_running =
       let slot_is_itself : (slot == slot) ≡ true = eq-eqb slot slot refl in
-      let is_among : true ≡ list_any (is_world_of slot) (Enclave slot ∷ other_worlds) = rw slot_is_itself refl in
+      let is_among_new_worlds : true ≡ list_any (is_world_of slot) (Enclave slot ∷ other_worlds) = rw slot_is_itself refl in
       let runs_on_no_other : list_any (is_world_of slot) other_worlds ≡ false =
       sym (shared_invariant.running slot) ∙ ap running_in slot_is ∙ not_running in
+      -- no two of the other worlds are the same enclave
+      let (_, other_worlds_apart) = shared_invariant.apart in
       rw (with_state_is shared.table slot info Running slot_is)
       (shared_invariant-with_slot shared (Host ∷ other_worlds) (Enclave slot ∷ other_worlds) slot (Some (record info { state = Running })) None
       shared.memory shared_invariant
       (live_in_range shared.table slot info shared_invariant.valid.count slot_is) refl
-      (own_fits shared.memory shared.table slot info Running shared_invariant.valid slot_is) refl tt is_among
+      (own_fits shared.memory shared.table slot info Running shared_invariant.valid slot_is) refl tt is_among_new_worlds
       (λ other is_other. other_worlds_unchanged other slot is_other)
-      (λ other runs_other. apart_from_others slot other runs_on_no_other runs_other, shared_invariant.apart.1))
+      (λ other runs_other. apart_from_others slot other runs_on_no_other runs_other, other_worlds_apart))
 
   -- a slot that is Running has a record
   running_live : (maybe_info : Option SlotInfo) → running_in maybe_info ≡ true → (info : SlotInfo) × (maybe_info ≡ Some info)
@@ -344,14 +350,16 @@ module _ (other_worlds : List World) where
       let slot_is_itself : (slot == slot) ≡ true = eq-eqb slot slot refl in
       let (info, slot_is) = running_live (slot_at shared.table slot) (shared_invariant.running slot ∙ rw slot_is_itself refl) in
       let saved_is_held : true ≡ is_held (Some (record info { state = state })) = rw not_running refl in
-      let runs_on_no_other : list_any (is_world_of slot) other_worlds ≡ false = shared_invariant.apart.0 slot slot_is_itself in
+      -- no other world is the enclave of the first world, and no two of the other worlds are the same enclave
+      let (first_is_no_other, other_worlds_apart) = shared_invariant.apart in
+      let runs_on_no_other : list_any (is_world_of slot) other_worlds ≡ false = first_is_no_other slot slot_is_itself in
       rw (with_state_is shared.table slot info state slot_is)
       (shared_invariant-with_slot shared (Enclave slot ∷ other_worlds) (Host ∷ other_worlds) slot (Some (record info { state = state })) (Some saved)
       shared.memory shared_invariant
       (live_in_range shared.table slot info shared_invariant.valid.count slot_is) refl
       (own_fits shared.memory shared.table slot info state shared_invariant.valid slot_is) saved_is_held can_continue
       (not_running ∙ sym runs_on_no_other) (λ other is_other. sym (other_worlds_unchanged other slot is_other))
-      (λ other runs_other. let contradiction : false ≡ true = runs_other in cc, shared_invariant.apart.1))
+      (λ other runs_other. let contradiction : false ≡ true = runs_other in cc, other_worlds_apart))
 
 -- ---- the calls, not refused
 

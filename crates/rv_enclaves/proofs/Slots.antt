@@ -45,9 +45,12 @@ none_past table number table_length not_a_slot = elim (cases_lt number slot_coun
 pub none_at : {A : Type 0} (test : Option A → Bool) (contents : List (Option A)) (index : ℕ) → test None ≡ false → list_any test contents ≡ false
     → test (slice_index_or contents index None) ≡ false
 none_at test [] index none_fails none_holds = none_fails
-none_at test (content ∷ contents) zero none_fails none_holds = (or_parts (test content) (list_any test contents) none_holds).0
+none_at test (content ∷ contents) zero none_fails none_holds =
+    let (first_fails, others_fail) = or_parts (test content) (list_any test contents) none_holds in
+    first_fails
 none_at test (content ∷ contents) (suc index) none_fails none_holds =
-    none_at test contents index none_fails (or_parts (test content) (list_any test contents) none_holds).1
+    let (first_fails, others_fail) = or_parts (test content) (list_any test contents) none_holds in
+    none_at test contents index none_fails others_fail
 
 -- ---- the checks of create
 
