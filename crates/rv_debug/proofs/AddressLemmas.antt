@@ -62,16 +62,18 @@ searched-place addresses address result sorted search_result =
           (λ place. (place ≤ length addresses) × ((index : ℕ) → index < place → get_or addresses index 0 < address)
           × ((index : ℕ) → place ≤ index → index < length addresses → address < get_or addresses index 0))
           → MatchResult result (λ place. (place < length addresses) × (get_or addresses place 0 ≡ address)) (HasPlace addresses address)
-      place_from (Ok place) found = found
+      place_from (Ok place) address_at_place = address_at_place
       place_from (Err place) (within, below, above) = record { within = within; below = below; above = above }
 
 -- an address that has an index for insertion is not in the list
 pub not_at_insertion : (address : ℕ) (addresses : List ℕ) (place : ℕ) → HasPlace addresses address place → (index : ℕ)
     → index < length addresses → get_or addresses index 0 ≢ address
 not_at_insertion address addresses place insertion index in_bounds is_address = elim (cases_lt index place) [
+  -- an address before the index for insertion is below the address
   | inl is_before ↦
       let is_below : get_or addresses index 0 < address = insertion.below index is_before in
       absurd (omega arith)
+  -- an address from the index for insertion on is above the address
   | inr is_at_or_after ↦
       let is_above : address < get_or addresses index 0 = insertion.above index is_at_or_after in_bounds in
       absurd (omega arith)
@@ -248,10 +250,11 @@ sorted-filter test (first ∷ rest) sorted = with_first (test first) (sorted_abo
 find-first : (test : ℕ → Bool) (addresses : List ℕ) (index : ℕ)
     → ((position : ℕ) → position < index → test (get_or addresses position 0) ≡ false) → index < length addresses
     → test (get_or addresses index 0) ≡ true → find test addresses ≡ Some (get_or addresses index 0)
-find-first test [] index none_before in_bounds holds = absurd (omega arith)
-find-first test (first ∷ rest) zero none_before in_bounds holds = rw holds refl
-find-first test (first ∷ rest) (suc index) none_before in_bounds holds =
-    rw (none_before 0 (omega arith)) (find-first test rest index (λ position is_before. none_before (suc position) (omega arith)) (omega arith) holds)
+find-first test [] index none_before in_bounds passes = absurd (omega arith)
+find-first test (first ∷ rest) zero none_before in_bounds passes = rw passes refl
+find-first test (first ∷ rest) (suc index) none_before in_bounds passes =
+    rw (none_before 0 (omega arith))
+    (find-first test rest index (λ position is_before. none_before (suc position) (omega arith)) (omega arith) passes)
 
 -- a search finds no address if no address passes the test
 find-none : (test : ℕ → Bool) (addresses : List ℕ) → ((position : ℕ) → position < length addresses → test (get_or addresses position 0) ≡ false)
@@ -263,9 +266,9 @@ find-none test (first ∷ rest) none_passes =
 -- if a list is sorted above `low`, then the first address that passes the test is above `low`
 find-above : (test : ℕ → Bool) (low : ℕ) (addresses : List ℕ) (found_address : ℕ) → IsSortedAbove low addresses
     → find test addresses ≡ Some found_address → low < found_address
-find-above test low [] found_address sorted_above found = cc
-find-above test low (first ∷ rest) found_address (first_above, rest_sorted) found =
-    with_first (test first) found (find-above test first rest found_address rest_sorted) where
+find-above test low [] found_address sorted_above search_finds = cc
+find-above test low (first ∷ rest) found_address (first_above, rest_sorted) search_finds =
+    with_first (test first) search_finds (find-above test first rest found_address rest_sorted) where
       -- the found address is above `low`, where `passes` states whether the first address passes the test
       with_first : (passes : Bool) → cond passes (Some first) (find test rest) ≡ Some found_address
           → (find test rest ≡ Some found_address → first < found_address) → low < found_address
@@ -276,20 +279,20 @@ find-above test low (first ∷ rest) found_address (first_above, rest_sorted) fo
           let found_above_first : first < found_address = rest_above found_is in
           omega (arith, first_above)
 
--- the lower of an address and of a higher found address is the address; `found` may be None
-lower-before : (address : ℕ) (found : Option ℕ) → ((found_address : ℕ) → found ≡ Some found_address → address < found_address)
-    → lower (Some address) found ≡ Some address
-lower-before address None above = refl
-lower-before address (Some found_address) above =
-    let is_above : address < found_address = above found_address refl in
+-- the lower of an address and of a higher found address is the address; `maybe_found` is None if no address was found
+lower-before : (address : ℕ) (maybe_found : Option ℕ) → ((found_address : ℕ) → maybe_found ≡ Some found_address → address < found_address)
+    → lower (Some address) maybe_found ≡ Some address
+lower-before address None found_is_above = refl
+lower-before address (Some found_address) found_is_above =
+    let is_above : address < found_address = found_is_above found_address refl in
     let min_is : min address found_address ≡ address = omega arith in ap Some min_is
 
--- the lower of a higher found address and of an address is the address; `found` may be None
-lower-after : (address : ℕ) (found : Option ℕ) → ((found_address : ℕ) → found ≡ Some found_address → address < found_address)
-    → lower found (Some address) ≡ Some address
-lower-after address None above = refl
-lower-after address (Some found_address) above =
-    let is_above : address < found_address = above found_address refl in
+-- the lower of a higher found address and of an address is the address; `maybe_found` is None if no address was found
+lower-after : (address : ℕ) (maybe_found : Option ℕ) → ((found_address : ℕ) → maybe_found ≡ Some found_address → address < found_address)
+    → lower maybe_found (Some address) ≡ Some address
+lower-after address None found_is_above = refl
+lower-after address (Some found_address) found_is_above =
+    let is_above : address < found_address = found_is_above found_address refl in
     let min_is : min found_address address ≡ address = omega arith in ap Some min_is
 
 -- the first address that passes one of two tests is the lower of the first address that passes each test
@@ -352,12 +355,14 @@ pub find-nothing_between : (address count : ℕ) (addresses : List ℕ) (place :
     → None ≡ find (is_between address count) addresses
 find-nothing_between address count addresses place sorted insertion is_past_interval =
     sym (find-none (is_between address count) addresses not_in_interval) where
-      -- no address of the list is one of the `count` addresses from x on
+      -- no address of the list is one of the `count` addresses from `address` on
       not_in_interval : (index : ℕ) → index < length addresses → is_between address count (get_or addresses index 0) ≡ false
       not_in_interval index in_bounds = elim (cases_lt index place) [
+        -- an address before the index for insertion is below the interval
         | inl is_before ↦
             let is_below : get_or addresses index 0 < address = insertion.below index is_before in
             grind (arith, nat_tests)
+        -- an address from the index for insertion on is at or above `address + count`, the end of the interval
         | inr is_at_or_after ↦
             let interval_is_below : address + count ≤ get_or addresses place 0 = is_past_interval (omega arith) in
             let is_above : get_or addresses place 0 ≤ get_or addresses index 0 = sorted-le addresses sorted place index is_at_or_after in_bounds in
@@ -378,11 +383,13 @@ gap-free addresses place start end address sorted within below above from_interv
   -- each address of the list differs from the address in the interval
   differs : (index : ℕ) → index < length addresses → get_or addresses index 0 ≢ address
   differs index in_bounds is_address = elim (cases_lt index place) [
+    -- an address before `place` is below the interval
     | inl is_before ↦
         let ends_below_interval : get_or addresses (place - 1) 0 < start = below (omega arith) in
         let is_above : get_or addresses index 0 ≤ get_or addresses (place - 1) 0 =
         sorted-le addresses sorted index (place - 1) (omega arith) (omega arith) in
         absurd (omega arith)
+    -- an address from `place` on is at or above the end of the interval
     | inr is_at_or_after ↦
         let interval_is_below : end ≤ get_or addresses place 0 = above (omega arith) in
         let is_above : get_or addresses place 0 ≤ get_or addresses index 0 = sorted-le addresses sorted place index is_at_or_after in_bounds in

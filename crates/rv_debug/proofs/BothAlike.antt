@@ -218,9 +218,9 @@ module _ (enclave : ℕ) where
 
   -- ---- in the loop of `run_commands`
 
-  -- `later` is the result with `count` more executed commands
-  abbrev pub later : ℕ → BothRan → BothRan
-  later count rest_ran = record { first = rest_ran.first; second = rest_ran.second; ran = count + rest_ran.ran; why = rest_ran.why }
+  -- `with_commands_before` is the result `rest_ran` of the remaining commands, with `count` commands executed before them
+  abbrev pub with_commands_before : ℕ → BothRan → BothRan
+  with_commands_before count rest_ran = record { first = rest_ran.first; second = rest_ran.second; ran = count + rest_ran.ran; why = rest_ran.why }
 
   -- the commands from an index on are the command at this index and the commands after it
   next_command : (commands : List Command) (index : ℕ) (command : Command) → index < length commands
@@ -231,42 +231,43 @@ module _ (enclave : ℕ) where
   -- the state of the loop at the command with this index: `all_ran` is the result of all commands, and `after` that of this command
   module _ (one other : BenchState) (commands : List Command) (index : ℕ) (command : Command) (all_ran : BothRan) (after : BothExecuted)
       (in_bounds : index < length commands) (command_is : command ≡ get_or commands index command)
-      (so_far : later index (both_run enclave one other (drop index commands)) ≡ all_ran)
+      (so_far : with_commands_before index (both_run enclave one other (drop index commands)) ≡ all_ran)
       (executed : both_execute enclave one other command ≡ after) where
-    -- the result of all commands, by the reason (why) for which the commands go on or end after the command at index n
+    -- the result of all commands, by the reason (why) for which the commands go on or end after the command at `index`
     result_if_reason : (why : BothWhy) → after.why ≡ why
-        → all_ran ≡ later index (go_on why after (both_run enclave after.first after.second (drop (index + 1) commands)))
+        → all_ran ≡ with_commands_before index (go_on why after (both_run enclave after.first after.second (drop (index + 1) commands)))
     result_if_reason why reason_is =
         sym so_far
-        ∙ ap (λ (remaining : List Command). later index (both_run enclave one other remaining))
+        ∙ ap (λ (remaining : List Command). with_commands_before index (both_run enclave one other remaining))
         (next_command commands index command in_bounds command_is)
-        ∙ ap (later index) (run_with_first_command one other command (drop (index + 1) commands) after why executed reason_is)
+        ∙ ap (with_commands_before index) (run_with_first_command one other command (drop (index + 1) commands) after why executed reason_is)
 
     -- after a command that enters `enclave`, the list ends, and this command is counted
-    pub at_entered : after.why ≡ Entered → all_ran ≡ record { first = after.first; second = after.second; ran = index + 1; why = Entered }
-    at_entered reason_is = result_if_reason Entered reason_is
+    pub result_at_entry : after.why ≡ Entered → all_ran ≡ record { first = after.first; second = after.second; ran = index + 1; why = Entered }
+    result_at_entry reason_is = result_if_reason Entered reason_is
 
     -- at a command that is not blind, the list ends, and this command is not counted
-    pub at_blind : after.why ≡ NotBlind → all_ran ≡ record { first = after.first; second = after.second; ran = index; why = NotBlind }
-    at_blind reason_is =
+    pub result_at_not_blind : after.why ≡ NotBlind → all_ran ≡ record { first = after.first; second = after.second; ran = index; why = NotBlind }
+    result_at_not_blind reason_is =
         let count : index + 0 ≡ index = omega arith in
         result_if_reason NotBlind reason_is ∙ ap (λ (ran : ℕ). record { first = after.first; second = after.second; ran = ran; why = NotBlind }) count
 
     -- after any other command, the result is that of the remaining commands
-    pub at_more : after.why ≡ All → later (index + 1) (both_run enclave after.first after.second (drop (index + 1) commands)) ≡ all_ran
-    at_more reason_is =
+    pub result_at_next : after.why ≡ All
+        → with_commands_before (index + 1) (both_run enclave after.first after.second (drop (index + 1) commands)) ≡ all_ran
+    result_at_next reason_is =
         let rest_ran = both_run enclave after.first after.second (drop (index + 1) commands) in
         let count : index + 1 + rest_ran.ran ≡ index + suc rest_ran.ran = omega arith in
         ap (λ (ran : ℕ). record { first = rest_ran.first; second = rest_ran.second; ran = ran; why = rest_ran.why }) count
         ∙ sym (result_if_reason All reason_is)
 
   -- after the last command, the result is that all were executed
-  pub at_last : (one other : BenchState) (commands : List Command) (index : ℕ) (all_ran : BothRan)
-      → index ≡ length commands → later index (both_run enclave one other (drop index commands)) ≡ all_ran
+  pub result_at_end : (one other : BenchState) (commands : List Command) (index : ℕ) (all_ran : BothRan)
+      → index ≡ length commands → with_commands_before index (both_run enclave one other (drop index commands)) ≡ all_ran
       → all_ran ≡ record { first = one; second = other; ran = length commands; why = All }
-  at_last one other commands index all_ran at_end so_far =
+  result_at_end one other commands index all_ran at_end so_far =
       let nothing_left : drop index commands ≡ [] = drop_all index commands (omega arith) in
       let count : index + 0 ≡ length commands = omega (arith, at_end) in
-      sym so_far ∙ ap (λ (remaining : List Command). later index (both_run enclave one other remaining)) nothing_left
-      ∙ ap (later index) (empty_run one other)
+      sym so_far ∙ ap (λ (remaining : List Command). with_commands_before index (both_run enclave one other remaining)) nothing_left
+      ∙ ap (with_commands_before index) (empty_run one other)
       ∙ ap (λ (ran : ℕ). record { first = one; second = other; ran = ran; why = All }) count

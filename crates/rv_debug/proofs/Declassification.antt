@@ -357,8 +357,8 @@ module _ (enclave : ℕ) (machine : Machine) (breaks watches : List ℕ) where
   bare_alike : (command other_command : Command) → SecretsOrSame enclave bench bench command other_command
       → ObservedAlike enclave bench bench command other_command
   bare_alike command other_command (inl same_command) = subst (ObservedAlike enclave bench bench command) same_command.same (bare_itself command)
-  bare_alike command other_command (inr (inl pokes_secret)) = absurd (bare_pokes command pokes_secret.0)
-  bare_alike command other_command (inr (inr sets_secret)) = absurd (bare_sets command sets_secret.0)
+  bare_alike command other_command (inr (inl (pokes_secret, other_pokes_secret))) = absurd (bare_pokes command pokes_secret)
+  bare_alike command other_command (inr (inr (sets_secret, other_sets_secret))) = absurd (bare_sets command sets_secret)
 
 -- Two commands that are alike are observed alike in two benches with related targets and equal breakpoints and watchpoints. In the monitored case,
 -- the second target is rewritten to the selected hart of the first.
@@ -416,10 +416,12 @@ pub list_declassification : ListDeclassificationLaw
 list_declassification enclave bench other_bench [] [] invariant other_invariant related alike = record { observed = refl; state = related }
 list_declassification enclave bench other_bench [] (other_command ∷ other_commands) invariant other_invariant related alike = absurd alike
 list_declassification enclave bench other_bench (command ∷ commands) [] invariant other_invariant related alike = absurd alike
-list_declassification enclave bench other_bench (command ∷ commands) (other_command ∷ other_commands) invariant other_invariant related alike =
-    let alike_after = declassification enclave bench other_bench command other_command invariant other_invariant related alike.0 in
+list_declassification enclave bench other_bench (command ∷ commands) (other_command ∷ other_commands) invariant other_invariant related
+    (first_alike, later_alike) =
+    let alike_after = declassification enclave bench other_bench command other_command invariant other_invariant related first_alike in
     let rest_alike = list_declassification enclave (execute bench command).state (execute other_bench other_command).state commands other_commands
-    (command_keeps_invariant bench command invariant) (command_keeps_invariant other_bench other_command other_invariant) alike_after.state alike.1 in
+    (command_keeps_invariant bench command invariant) (command_keeps_invariant other_bench other_command other_invariant) alike_after.state
+    later_alike in
     record {
       observed = ap₂ (λ (text : List ℕ) (texts : List (List ℕ)). text ∷ texts) alike_after.observed rest_alike.observed;
       state = rest_alike.state;

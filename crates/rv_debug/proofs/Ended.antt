@@ -66,10 +66,12 @@ runs_on_no_hart machine invariant hart = elim (cases_Bool (runs_on slot_count ha
 step_never_enters : (hart : ℕ) (machine : MonitoredMachine) → Invariant machine → enters slot_count (step_of hart machine).outcome.entered ≡ false
 step_never_enters hart machine invariant =
     entered_by slot_count (step_of hart machine).outcome.entered (λ entered_is. elim (cases_lt hart (count_of machine)) [
+      -- the hart is not a hart of the machine: the step does nothing
       | inr out_of_range ↦
           let enters_nothing : None ≡ Some slot_count =
           sym (ap (λ (after : MonitoredStepped). after.outcome.entered) (outside hart machine out_of_range))
           ∙ entered_is in cc
+      -- the hart exists: after a step that enters the slot, its enclave would run on the hart
       | inl in_range ↦
           let step_in_view = step_of_view hart machine in_range in
           let runs_in_view =
@@ -136,10 +138,11 @@ windows_equal : (target other_target : Target) → TargetInvariant target → If
 windows_equal (Bare machine) other_target invariant = tt
 windows_equal (Monitored machine) (Bare other) invariant = tt
 windows_equal (Monitored machine) (Monitored other) invariant =
-    λ running. let not_running : runs machine.state.shared.table slot_count ≡ false =
+    λ running.
+    let not_running : runs machine.state.shared.table slot_count ≡ false =
     ap (λ (maybe_info : Option SlotInfo). option_case maybe_info false (λ info. is_running info.state))
-    (no_slot_at_count machine.state invariant) in absurd
-    (both_ways _ not_running running)
+    (no_slot_at_count machine.state invariant) in
+    absurd (both_ways _ not_running running)
 
 -- ---- two machines that are equal in the guest view are related for every slot
 
@@ -209,8 +212,8 @@ ended_for_all enclave bench other_bench invariant related ended slot =
 -- the next step of the hart traps, and the host runs on the hart after it
 record ExitsNow (hart : ℕ) (machine : MonitoredMachine) : Type 0 where
   trap : Trap
-  traps : (step_of hart machine).outcome.step.trap ≡ Some trap
-  world : (hart_state_of hart (step_of hart machine).state).world ≡ Host
+  trap_is : (step_of hart machine).outcome.step.trap ≡ Some trap
+  host_runs_after : (hart_state_of hart (step_of hart machine).state).world ≡ Host
 
 -- `enclave` runs on the hart before a step of it, and not after the step
 module _ (enclave hart : ℕ) (machine : MonitoredMachine) (invariant : Invariant machine) (on_hart : runs_on enclave hart machine ≡ true)
@@ -223,9 +226,9 @@ module _ (enclave hart : ℕ) (machine : MonitoredMachine) (invariant : Invarian
       record { first = on_hart; second = on_hart; hart = refl; slot = refl; memory = record { size = refl; bytes = λ index not_hidden. refl } } in
       ((enclave_step place place machine machine invariant invariant same_enclave).state.exits has_left).first.world
 
-  -- a step of the enclave after which the host runs is an exit by a trap, where `o` is the trap of the step
+  -- a step of the enclave after which the host runs is an exit by a trap, where `maybe_trap` is the trap of the step
   exits_by_trap : (maybe_trap : Option Trap) → (step_of hart machine).outcome.step.trap ≡ maybe_trap → ExitsNow hart machine
-  exits_by_trap (Some trap) trapped = record { trap = trap; traps = trapped; world = exits_to_host }
+  exits_by_trap (Some trap) step_traps = record { trap = trap; trap_is = step_traps; host_runs_after = exits_to_host }
   exits_by_trap None no_trap =
       let runs_enclave = world_is_enclave enclave (hart_state_of hart machine).world on_hart in
       not_host _ enclave _ ((exits_law hart machine invariant enclave runs_enclave).quiet no_trap) exits_to_host
@@ -249,6 +252,7 @@ guest_moves enclave (hart ∷ harts) one other invariant other_invariant related
     -- the step is low for slot `slot_count` in both machines, so they are related again after it
     let alike_after = declassification_law slot_count (Both (StepOf hart) ∷ []) one other invariant other_invariant related
     (inl (record { low = on_no_hart; window = λ running. window_read slot_count hart one other (window slot_count) }), tt) in
+    let (same_outcomes_if_low, _) = alike_after.outcomes in
     let rest_moves = guest_moves enclave harts (step_of hart one).state (step_of hart other).state (invariant_law hart one invariant)
     (invariant_law hart other other_invariant) alike_after.state in
     let first_harts = ap (λ (later_harts : List ℕ). hart ∷ later_harts) rest_moves.first in
@@ -293,10 +297,10 @@ guest_moves enclave (hart ∷ harts) one other invariant other_invariant related
                     a6 = ap (λ (hart_state : HartState). register hart_state.hart.regs 16) same_guest;
                   });
                   trap = exit.trap;
-                  first = exit.traps;
-                  second = sym (ap (λ (outcome : Outcome). outcome.step.trap) (alike_after.outcomes.0 on_no_hart)) ∙ exit.traps;
-                  first_exits = exit.world;
-                  second_exits = sym (alike_after.state.hart_states hart).world ∙ exit.world;
+                  first = exit.trap_is;
+                  second = sym (ap (λ (outcome : Outcome). outcome.step.trap) (same_outcomes_if_low on_no_hart)) ∙ exit.trap_is;
+                  first_exits = exit.host_runs_after;
+                  second_exits = sym (alike_after.state.hart_states hart).world ∙ exit.host_runs_after;
                 }),
                 rest_moves.are,
               );

@@ -35,11 +35,13 @@ use Rattle.rv_debug.proofs.ScheduledSteps.{after_schedule, bare_target}
 -- two executions have equal replies and entered slots, and leave benches that are equivalent except for `enclave`
 record ExecutedAlike (enclave : ℕ) (one other : Executed) : Type 0 where
   pub reply : one.reply ≡ other.reply
+  -- both enter the same slots
   pub entered : one.entered ≡ other.entered
   pub state : BenchesEquivExcept enclave one.state other.state
 
 -- two executions enter `enclave` both or neither; if neither, they have equal replies and leave equivalent benches
-record Alike (enclave : ℕ) (one other : Executed) : Type 0 where
+record AlikeUnlessEntered (enclave : ℕ) (one other : Executed) : Type 0 where
+  -- the entered slots have `enclave` in both executions or in neither
   pub entered : is_entered enclave one.entered ≡ is_entered enclave other.entered
   pub passed : is_entered enclave one.entered ≡ false → ExecutedAlike enclave one other
 
@@ -58,7 +60,7 @@ executed_with target breaks watches reply = record { state = bench_of target bre
 -- two executions that enter no enclave, leave equivalent targets and have equal replies are alike
 equal_replies_alike : (enclave : ℕ) (one other : Target) (breaks watches reply other_reply : List ℕ) → TargetsEquivExcept enclave one other
     → reply ≡ other_reply
-    → Alike enclave (executed_with one breaks watches reply) (executed_with other breaks watches other_reply)
+    → AlikeUnlessEntered enclave (executed_with one breaks watches reply) (executed_with other breaks watches other_reply)
 equal_replies_alike enclave one other breaks watches reply other_reply equiv same_reply = record {
   entered = refl;
   passed = λ not_entered. record { reply = same_reply; entered = refl; state = record { target = equiv; breaks = refl; watches = refl } };
@@ -93,10 +95,11 @@ schedule_executed hart breaks watches after =
 -- the command `sched` is alike in two equivalent machines, if both schedules have equal summaries and the enclave runs on no hart
 equal_schedules_alike : (enclave hart : ℕ) (breaks watches : List ℕ) (summary other_summary : Scheduled) (one other : Selected)
     → summary ≡ other_summary → SelectedEquivExcept enclave one other → RunsOnNoHart enclave (Monitored one)
-    → Alike enclave (schedule_executed hart breaks watches (after_schedule (Monitored one) summary))
+    → AlikeUnlessEntered enclave (schedule_executed hart breaks watches (after_schedule (Monitored one) summary))
     (schedule_executed hart breaks watches (after_schedule (Monitored other) other_summary))
 equal_schedules_alike enclave hart breaks watches summary other_summary one other same_summary equiv on_no_hart =
-    subst (λ (summary_of_second : Scheduled). Alike enclave (schedule_executed hart breaks watches (after_schedule (Monitored one) summary))
+    subst (λ (summary_of_second : Scheduled).
+    AlikeUnlessEntered enclave (schedule_executed hart breaks watches (after_schedule (Monitored one) summary))
     (schedule_executed hart breaks watches (after_schedule (Monitored other) summary_of_second))) same_summary
     (record {
       entered = refl;
@@ -110,15 +113,17 @@ equal_schedules_alike enclave hart breaks watches summary other_summary one othe
 -- the command `sched` is alike in two benches, if neither schedule enters the enclave and the enclave runs on no hart before them
 unentered_schedules_alike : (enclave hart : ℕ) (breaks watches : List ℕ) (start : Selected) (one other : AfterSchedule)
     → RunsOnNoHart enclave (Monitored start)
-    → NeitherEnters enclave start one other → Alike enclave (schedule_executed hart breaks watches one) (schedule_executed hart breaks watches other)
+    → NeitherEnters enclave start one other
+    → AlikeUnlessEntered enclave (schedule_executed hart breaks watches one) (schedule_executed hart breaks watches other)
 unentered_schedules_alike enclave hart breaks watches start one other on_no_hart neither_enters =
-    subst (λ (target : Target). Alike enclave (schedule_executed hart breaks watches (after_schedule target one.did))
+    subst (λ (target : Target). AlikeUnlessEntered enclave (schedule_executed hart breaks watches (after_schedule target one.did))
     (schedule_executed hart breaks watches other))
     (sym neither_enters.one_state_is)
-    (subst (λ (target : Target). Alike enclave (schedule_executed hart breaks watches (after_schedule (Monitored neither_enters.end_of_one) one.did))
+    (subst (λ (target : Target).
+    AlikeUnlessEntered enclave (schedule_executed hart breaks watches (after_schedule (Monitored neither_enters.end_of_one) one.did))
     (schedule_executed hart breaks watches (after_schedule target other.did))) (sym neither_enters.other_state_is)
-    (equal_schedules_alike enclave hart breaks watches one.did other.did neither_enters.end_of_one neither_enters.end_of_other neither_enters.did
-    neither_enters.state (neither_enters.on_no_hart on_no_hart)))
+    (equal_schedules_alike enclave hart breaks watches one.did other.did neither_enters.end_of_one neither_enters.end_of_other
+    neither_enters.same_summary neither_enters.equiv_ends (neither_enters.on_no_hart on_no_hart)))
 
 -- ---- a run
 
@@ -184,10 +189,10 @@ not_on_hart_of_range : (enclave count start hart : ℕ) (machine : MonitoredMach
     → hart < start + count
     → runs_on enclave hart machine ≡ false
 not_on_hart_of_range enclave zero start hart machine runs_on_none from_start below_end = absurd (omega (arith, from_start, below_end))
-not_on_hart_of_range enclave (suc count) start hart machine runs_on_none from_start below_end = elim (cases_eq hart start) [
-  | inl is_start ↦ ap (λ (other_hart : ℕ). runs_on enclave other_hart machine) is_start ∙ runs_on_none.0
+not_on_hart_of_range enclave (suc count) start hart machine (not_on_start, on_none_of_rest) from_start below_end = elim (cases_eq hart start) [
+  | inl is_start ↦ ap (λ (other_hart : ℕ). runs_on enclave other_hart machine) is_start ∙ not_on_start
   | inr is_not_start ↦
-      not_on_hart_of_range enclave count (start + 1) hart machine runs_on_none.1 (omega (arith, from_start, is_not_start)) (omega (arith, below_end))
+      not_on_hart_of_range enclave count (start + 1) hart machine on_none_of_rest (omega (arith, from_start, is_not_start)) (omega (arith, below_end))
 ]
 
 -- an enclave that runs on none of the harts of the machine runs on no hart
@@ -222,7 +227,7 @@ module _ (enclave hart : ℕ) (one other : MonitoredMachine) (equiv : EquivExcep
 
   -- a command that leaves both benches unchanged and has equal replies is executed alike
   unchanged_alike : (reply other_reply : List ℕ) → reply ≡ other_reply
-      → Alike enclave (executed_with (as_target one) breaks watches reply) (executed_with (as_target other) breaks watches other_reply)
+      → AlikeUnlessEntered enclave (executed_with (as_target one) breaks watches reply) (executed_with (as_target other) breaks watches other_reply)
   unchanged_alike reply other_reply same_reply =
       equal_replies_alike enclave (as_target one) (as_target other) breaks watches reply other_reply targets_equiv same_reply
 
@@ -230,9 +235,9 @@ module _ (enclave hart : ℕ) (one other : MonitoredMachine) (equiv : EquivExcep
 
   -- if a command that shows the selected hart avoids the hart of the enclave, the state of the selected hart is equal in both machines
   same_selected_hart : AvoidsHart enclave bench_of_one Regs → hart_state_of hart one ≡ hart_state_of hart other
-  same_selected_hart avoids_hart =
+  same_selected_hart (not_on_hart, _) =
       let hart_equiv = equiv.hart_states hart in
-      hart_equiv.same avoids_hart.0
+      hart_equiv.same not_on_hart
 
   -- two equivalent machines have equal PMP entries in each hart
   same_entries : Invariant one → Invariant other → (hart_state_of hart one).hart.csrs.pmp ≡ (hart_state_of hart other).hart.csrs.pmp
@@ -271,7 +276,7 @@ module _ (enclave hart : ℕ) (one other : MonitoredMachine) (equiv : EquivExcep
 
   -- equal pokes are alike in both benches
   poke_alike : (address byte : ℕ)
-      → Alike enclave (poke_execute one (write one.shared.memory address (byte ∷ [])))
+      → AlikeUnlessEntered enclave (poke_execute one (write one.shared.memory address (byte ∷ [])))
       (poke_execute other (write other.shared.memory address (byte ∷ [])))
   poke_alike address byte =
       let shared = equiv.shared in
@@ -307,21 +312,23 @@ module _ (enclave hart : ℕ) (one other : MonitoredMachine) (equiv : EquivExcep
 
   -- the command `step` or `run` is alike in both benches, if its two runs are alike
   runs_executed_alike : (one_ran other_ran : AfterRun MonitoredMachine) → RunAlike enclave hart one_ran other_ran
-      → Alike enclave (steps_execute breaks watches (target_of (selected_at hart) one_ran))
+      → AlikeUnlessEntered enclave (steps_execute breaks watches (target_of (selected_at hart) one_ran))
       (steps_execute breaks watches (target_of (selected_at hart) other_ran))
+  -- both runs enter the enclave, so nothing is claimed of the replies and the benches
   runs_executed_alike one_ran other_ran (inl both_enter) = record {
     entered = both_enter.one_enters ∙ sym both_enter.other_enters;
     passed = λ not_entered. let contradiction : true ≡ false = sym both_enter.one_enters ∙ not_entered in cc;
   }
+  -- neither run enters the enclave: the summaries and the states of the hart are equal, so the replies are
   runs_executed_alike one_ran other_ran (inr neither_enters) = record {
-    entered = ap (λ (ran : Ran). is_entered enclave ran.entered) neither_enters.ran;
+    entered = ap (λ (ran : Ran). is_entered enclave ran.entered) neither_enters.same_summary;
     passed = λ not_entered. record {
       reply =
-          let hart_equiv = (let state = neither_enters.state in state.hart_states hart) in
+          let hart_equiv = (let equiv_ends = neither_enters.equiv_ends in equiv_ends.hart_states hart) in
           ap₂ (λ (hart_state : HartState) (ran : Ran). ran_text hart_state.hart.pc hart_state.hart.mode (world_name hart_state.world) ran)
-          (hart_equiv.same neither_enters.not_on_hart) neither_enters.ran;
-      entered = ap (λ (ran : Ran). ran.entered) neither_enters.ran;
-      state = record { target = record { hart = refl; state = neither_enters.state }; breaks = refl; watches = refl };
+          (hart_equiv.same neither_enters.not_on_hart) neither_enters.same_summary;
+      entered = ap (λ (ran : Ran). ran.entered) neither_enters.same_summary;
+      state = record { target = record { hart = refl; state = neither_enters.equiv_ends }; breaks = refl; watches = refl };
     };
   }
 
@@ -335,14 +342,15 @@ module _ (enclave hart : ℕ) (one other : MonitoredMachine) (equiv : EquivExcep
 
   -- the command `step` or `run` is alike in both benches, if it avoids the hart of the enclave
   run_alike_executed : (at_breaks at_watches : List ℕ) (count : ℕ) → Invariant one → Invariant other → AvoidsHart enclave bench_of_one Regs
-      → Alike enclave (run_execute (as_target one) breaks watches at_breaks at_watches count)
+      → AlikeUnlessEntered enclave (run_execute (as_target one) breaks watches at_breaks at_watches count)
       (run_execute (as_target other) breaks watches at_breaks at_watches count)
-  run_alike_executed at_breaks at_watches count invariant other_invariant avoids_hart =
-      subst (λ (one_executed : Executed). Alike enclave one_executed (run_execute (as_target other) breaks watches at_breaks at_watches count))
+  run_alike_executed at_breaks at_watches count invariant other_invariant (not_on_hart, _) =
+      subst (λ (one_executed : Executed).
+      AlikeUnlessEntered enclave one_executed (run_execute (as_target other) breaks watches at_breaks at_watches count))
       (sym (run_is_of_machine one at_breaks at_watches count))
-      (subst (Alike enclave (steps_execute breaks watches _)) (sym (run_is_of_machine other at_breaks at_watches count))
+      (subst (AlikeUnlessEntered enclave (steps_execute breaks watches _)) (sym (run_is_of_machine other at_breaks at_watches count))
       (runs_executed_alike _ _ (run-alike enclave hart at_breaks at_watches count (no_steps one) other invariant other_invariant equiv
-      avoids_hart.0)))
+      not_on_hart)))
 
   -- ---- harts
 
@@ -357,7 +365,7 @@ module _ (enclave hart : ℕ) (one other : MonitoredMachine) (equiv : EquivExcep
         entered = entered_by
             (as_target machine) hart_effect;
       } in
-      Alike enclave (answers one exist) (answers other other_exist))
+      AlikeUnlessEntered enclave (answers one exist) (answers other other_exist))
   unfolding scheduled_steps
   hart_selection_alike number true true reply same_exist =
       equal_replies_alike enclave _ _ breaks watches (reply true) (reply true) (record { hart = refl; state = equiv }) refl
@@ -377,7 +385,7 @@ module _ (enclave hart : ℕ) (one other : MonitoredMachine) (equiv : EquivExcep
   -- the command `sched` is alike in both benches, if the enclave runs on no hart
   sched_executed_alike : (harts : List ℕ) (exist other_exist : Bool) → exist ≡ other_exist
       → Invariant one → Invariant other → RunsOnNoHart enclave (as_target one)
-      → Alike enclave (sched_executed one harts exist) (sched_executed other harts other_exist)
+      → AlikeUnlessEntered enclave (sched_executed one harts exist) (sched_executed other harts other_exist)
   sched_executed_alike harts true true same_exist invariant other_invariant on_no_hart =
       elim (scheduled_steps_alike enclave harts (as_selected one) (as_selected other) _ invariant other_invariant targets_equiv
       (on_none_of enclave harts one on_no_hart)) [
@@ -396,7 +404,7 @@ module _ (enclave hart : ℕ) (one other : MonitoredMachine) (equiv : EquivExcep
   module _ (invariant : Invariant one) (other_invariant : Invariant other) where
     -- each command that accesses no byte of the region (blind) and avoids the hart of the enclave is alike in both benches
     command_alike : (command : Command) → is_blind enclave bench_of_one command ≡ true → AvoidsHart enclave bench_of_one command
-        → Alike enclave (execute bench_of_one command) (execute bench_of_other command)
+        → AlikeUnlessEntered enclave (execute bench_of_one command) (execute bench_of_other command)
     unfolding execute is_blind
     -- `step` and `run` execute steps of the selected hart, on which the enclave does not run
     command_alike (Step count) blind avoids_hart = run_alike_executed [] [] count invariant other_invariant avoids_hart
@@ -454,9 +462,10 @@ module _ (enclave hart : ℕ) (one other : MonitoredMachine) (equiv : EquivExcep
 monitored-alike : (enclave : ℕ) (one other : Selected) (breaks watches : List ℕ) (command : Command) → Invariant one.state → Invariant other.state
     → SelectedEquivExcept enclave one other
     → is_blind enclave (bench_of (Monitored one) breaks watches) command ≡ true → AvoidsHart enclave (bench_of (Monitored one) breaks watches) command
-    → Alike enclave (execute (bench_of (Monitored one) breaks watches) command) (execute (bench_of (Monitored other) breaks watches) command)
+    → AlikeUnlessEntered enclave (execute (bench_of (Monitored one) breaks watches) command)
+    (execute (bench_of (Monitored other) breaks watches) command)
 monitored-alike enclave one other breaks watches command invariant other_invariant equiv blind avoids_hart =
-    subst (λ (hart : ℕ). Alike enclave (execute (bench_of (Monitored one) breaks watches) command)
+    subst (λ (hart : ℕ). AlikeUnlessEntered enclave (execute (bench_of (Monitored one) breaks watches) command)
     (execute (bench_of (selected_at hart other.state) breaks watches) command)) equiv.hart
     (command_alike enclave one.hart one.state other.state equiv.state breaks watches invariant other_invariant command blind avoids_hart)
 
@@ -467,7 +476,7 @@ unfolding execute
 bare-stays machine breaks watches command = effect_stays_bare machine (effect (bench_of (Bare machine) breaks watches) command)
 
 -- an execution that leaves a bare machine is alike to itself
-alike-itself : (enclave : ℕ) (after : Executed) → IsBare after.state.target → Alike enclave after after
+alike-itself : (enclave : ℕ) (after : Executed) → IsBare after.state.target → AlikeUnlessEntered enclave after after
 alike-itself enclave after bare =
     let equiv_with_itself = bare_target (λ (target : Target). TargetsEquivExcept enclave target target) (λ alone. refl) after.state.target bare in
     record {
@@ -479,11 +488,11 @@ alike-itself enclave after bare =
 targets-alike : (enclave : ℕ) (one other : Target) (breaks watches : List ℕ) (command : Command) → TargetInvariant one → TargetInvariant other
     → TargetsEquivExcept enclave one other
     → is_blind enclave (bench_of one breaks watches) command ≡ true → AvoidsHart enclave (bench_of one breaks watches) command
-    → Alike enclave (execute (bench_of one breaks watches) command) (execute (bench_of other breaks watches) command)
+    → AlikeUnlessEntered enclave (execute (bench_of one breaks watches) command) (execute (bench_of other breaks watches) command)
 targets-alike enclave (Monitored one) (Monitored other) breaks watches command invariant other_invariant equiv blind avoids_hart =
     monitored-alike enclave one other breaks watches command invariant other_invariant equiv blind avoids_hart
 targets-alike enclave (Bare one) (Bare other) breaks watches command invariant other_invariant equiv blind avoids_hart =
-    subst (λ (machine : Machine). Alike enclave (execute (bench_of (Bare one) breaks watches) command)
+    subst (λ (machine : Machine). AlikeUnlessEntered enclave (execute (bench_of (Bare one) breaks watches) command)
     (execute (bench_of (Bare machine) breaks watches) command)) equiv
     (alike-itself enclave (execute (bench_of (Bare one) breaks watches) command) (bare-stays one breaks watches command))
 targets-alike enclave _ _ breaks watches command invariant other_invariant equiv blind avoids_hart = absurd equiv
@@ -517,9 +526,9 @@ pub noninterference : NoninterferenceLaw
 noninterference enclave bench other_bench command invariant other_invariant equiv blind avoids_hart =
     -- the second bench is rewritten to the breakpoints and watchpoints of the first bench
     let alike_unless_entered =
-    subst (λ (breaks : List ℕ). Alike enclave (execute bench command)
+    subst (λ (breaks : List ℕ). AlikeUnlessEntered enclave (execute bench command)
     (execute (bench_of other_bench.target breaks other_bench.watches) command)) equiv.breaks
-    (subst (λ (watches : List ℕ). Alike enclave (execute bench command)
+    (subst (λ (watches : List ℕ). AlikeUnlessEntered enclave (execute bench command)
     (execute (bench_of other_bench.target bench.breaks watches) command)) equiv.watches
     (targets-alike enclave bench.target other_bench.target bench.breaks bench.watches command
     invariant other_invariant equiv.target blind avoids_hart)) in

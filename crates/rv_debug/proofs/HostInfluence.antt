@@ -128,20 +128,20 @@ byte_stays slot address byte context machine continues outside_region =
     write_cases (Stays slot context machine) machine address byte
     (record { continues = continues; table = refl; size = refl; bytes = λ byte_index in_region. refl }) (λ memory written.
     let old = machine.shared.memory in
-    let written_is = write-is old address (byte ∷ []) memory written in
+    let (from_ram_base, before_ram_end, written_memory_is) = write-is old address (byte ∷ []) memory written in
     let index = address - ram_base in
-    let within_memory : index + 1 ≤ length old = omega (arith, written_is.0, written_is.1) in
+    let within_memory : index + 1 ≤ length old = omega (arith, from_ram_base, before_ram_end) in
     record {
       continues = record { running = continues.running; resting = continues.resting };
       table = refl;
       size = length-write old address (byte ∷ []) memory written;
-      bytes = λ byte_index in_region. rw written_is.2 (elim (cases_lt byte_index index) [
+      bytes = λ byte_index in_region. rw written_memory_is (elim (cases_lt byte_index index) [
         -- a byte below the written byte is unchanged
         | inl below_byte ↦ index-below old index (byte ∷ []) byte_index within_memory below_byte
         | inr not_below_byte ↦ elim (cases_lt byte_index (index + 1)) [
           -- the written byte is outside the region
           | inl is_byte ↦
-              let byte_address : ram_base + byte_index ≡ address = omega (arith, written_is.0) in
+              let byte_address : ram_base + byte_index ≡ address = omega (arith, from_ram_base) in
               let contradiction : true ≡ false =
               sym (ap not (ap (has (region machine.shared.table slot)) byte_address ∙ outside_region)) ∙ in_region in
               cc
@@ -244,10 +244,11 @@ moved enclave other_enclave (InSecond action ∷ moves) one other one_sound othe
     record { steps = moved_rest.steps; point = moved_rest.point }
 moved enclave other_enclave (InBoth hart other_hart ∷ moves) one other one_sound other_sound point (permitted, rest_permitted) =
     let own_step = one_move enclave other_enclave one other point one_sound other_sound (Own hart other_hart) permitted in
+    let (same_step, _) = own_step.steps in
     let moved_rest =
     moved enclave other_enclave moves (step_of hart one).state (step_of other_hart other).state (action_sound (Occurs (StepOf hart)) one one_sound)
     (action_sound (Occurs (StepOf other_hart)) other other_sound) own_step.point rest_permitted in
-    record { steps = (own_step.steps.0, moved_rest.steps); point = moved_rest.point }
+    record { steps = (same_step, moved_rest.steps); point = moved_rest.point }
 
 -- ---- commands
 

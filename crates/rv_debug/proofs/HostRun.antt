@@ -45,29 +45,29 @@ use Rattle.rv_debug.specs.HostRun.{hosted_reset, second_machine, hosted_start}
 
 -- ---- the points in the runs
 
--- `entered` is the first machine after the two steps of the host to the call run
-abbrev entered : ℕ → MonitoredMachine
-entered choice = hosted_next 0 (hosted_next 0 (first_machine choice))
+-- `entered_machine` is the first machine after the two steps of the host to the call run
+abbrev entered_machine : ℕ → MonitoredMachine
+entered_machine choice = hosted_next 0 (hosted_next 0 (first_machine choice))
 
--- `loaded` is the first machine after the enclave's load, with the timer line set
-abbrev loaded : ℕ → MonitoredMachine
-loaded choice = with_timer 0 (hosted_next 0 (entered choice)) true
+-- `loaded_machine` is the first machine after the enclave's load, with the timer line set
+abbrev loaded_machine : ℕ → MonitoredMachine
+loaded_machine choice = with_timer 0 (hosted_next 0 (entered_machine choice)) true
 
--- `interrupted` is the first machine after the timer interrupt
-abbrev interrupted : ℕ → MonitoredMachine
-interrupted choice = hosted_next 0 (loaded choice)
+-- `interrupted_machine` is the first machine after the timer interrupt
+abbrev interrupted_machine : ℕ → MonitoredMachine
+interrupted_machine choice = hosted_next 0 (loaded_machine choice)
 
--- `resumed` is the first machine after the call resume
-abbrev resumed : ℕ → MonitoredMachine
-resumed choice = hosted_next 0 (hosted_next 0 (hosted_next 0 (interrupted choice)))
+-- `resumed_machine` is the first machine after the call resume
+abbrev resumed_machine : ℕ → MonitoredMachine
+resumed_machine choice = hosted_next 0 (hosted_next 0 (hosted_next 0 (interrupted_machine choice)))
 
--- `second_entered` is the second machine after the call run
-abbrev second_entered : ℕ → MonitoredMachine
-second_entered choice = hosted_next 1 (hosted_next 1 (second_machine choice))
+-- `second_entered_machine` is the second machine after the call run
+abbrev second_entered_machine : ℕ → MonitoredMachine
+second_entered_machine choice = hosted_next 1 (hosted_next 1 (second_machine choice))
 
--- `after_refusal` is the second machine after the refused call of hart 0
-abbrev after_refusal : ℕ → MonitoredMachine
-after_refusal b = hosted_next 0 (hosted_next 1 (second_entered b))
+-- `refused_machine` is the second machine after the refused call of hart 0
+abbrev refused_machine : ℕ → MonitoredMachine
+refused_machine b = hosted_next 0 (hosted_next 1 (second_entered_machine b))
 
 -- ---- what is computed
 
@@ -91,8 +91,8 @@ record IsOtherStep (hart : ℕ) (machine : MonitoredMachine) : Type 0 where
 -- the enclave runs on a hart whose timer line is clear, and the memory has the image for this byte of the host
 record IsBeforeOwnStep (hart byte : ℕ) (machine : MonitoredMachine) : Type 0 where
   on_hart : runs_on 0 hart machine ≡ true
-  clear : (hart_state_of hart machine).hart.csrs.timer ≡ false
-  memory : machine.shared.memory ≡ hosted_ram byte
+  line_is_clear : (hart_state_of hart machine).hart.csrs.timer ≡ false
+  memory_is : machine.shared.memory ≡ hosted_ram byte
 
 -- the next step of the hart does not read the byte of the host's choice in the window
 abbrev ignores_choice : ℕ → MonitoredMachine → Bool
@@ -109,47 +109,47 @@ context = first_context (record {
   state = Fresh;
 })
 
--- The facts of the first machine that are computed. `size`, `live`, `saved` and `hidden` hold after create; `saved` is the context of a new enclave,
--- and `hidden` says that the byte of the host's choice is outside the region. The other fields follow the moves: the steps of the host before the
--- call run, the load, the interrupt, the three steps of the host to resume, and the store.
+-- The facts of the first machine that are computed. `same_size`, `live`, `saved_context_is` and `choice_outside_region` hold after create: slot 0 has
+-- the context of a new enclave, and the byte of the host's choice is outside the region. The other fields follow the moves: the two steps of the host
+-- to the call run, the load, the interrupt, the three steps of the host to the call resume, and the store.
 record FirstMachineFacts (choice : ℕ) : Type 0 where
-  size : length (hosted_next 0 (hosted_start 1 0)).shared.memory ≡ length (hosted_ram choice)
+  same_size : length (hosted_next 0 (hosted_start 1 0)).shared.memory ≡ length (hosted_ram choice)
   live : is_live (first_machine choice).shared.table 0 ≡ true
-  saved : context_at (first_machine choice).shared.contexts 0 ≡ Some context
-  hidden : not (has (region (first_machine choice).shared.table 0) choice_address) ≡ true
+  saved_context_is : context_at (first_machine choice).shared.contexts 0 ≡ Some context
+  choice_outside_region : not (has (region (first_machine choice).shared.table 0) choice_address) ≡ true
   -- the two steps of the host that call run
-  before_run : IsOtherStep 0 (first_machine choice)
-  run : IsOtherStep 0 (hosted_next 0 (first_machine choice))
+  run_step_1 : IsOtherStep 0 (first_machine choice)
+  run_step_2 : IsOtherStep 0 (hosted_next 0 (first_machine choice))
   -- the load of the enclave, which does not read the byte of the host's choice
-  loads : IsBeforeOwnStep 0 choice (entered choice)
-  load_ignores_choice : ignores_choice 0 (entered choice) ≡ true
+  before_load : IsBeforeOwnStep 0 choice (entered_machine choice)
+  load_ignores_choice : ignores_choice 0 (entered_machine choice) ≡ true
   -- the timer interrupt
-  line_is_set : (hart_state_of 0 (loaded choice)).hart.csrs.timer ≡ true
-  interrupted_live : is_live (interrupted choice).shared.table 0 ≡ true
+  line_is_set : (hart_state_of 0 (loaded_machine choice)).hart.csrs.timer ≡ true
+  interrupted_live : is_live (interrupted_machine choice).shared.table 0 ≡ true
   -- the three steps of the host that call resume
-  resume_1 : IsOtherStep 0 (interrupted choice)
-  resume_2 : IsOtherStep 0 (hosted_next 0 (interrupted choice))
-  resume_3 : IsOtherStep 0 (hosted_next 0 (hosted_next 0 (interrupted choice)))
+  resume_1 : IsOtherStep 0 (interrupted_machine choice)
+  resume_2 : IsOtherStep 0 (hosted_next 0 (interrupted_machine choice))
+  resume_3 : IsOtherStep 0 (hosted_next 0 (hosted_next 0 (interrupted_machine choice)))
   -- the store of the enclave, which stores 7
-  stores : IsBeforeOwnStep 0 choice (resumed choice)
-  store_ignores_choice : ignores_choice 0 (resumed choice) ≡ true
-  stored : slice_index (hosted_next 0 (resumed choice)).shared.memory stored_offset ≡ 7
+  before_store : IsBeforeOwnStep 0 choice (resumed_machine choice)
+  store_ignores_choice : ignores_choice 0 (resumed_machine choice) ≡ true
+  stored_word_is : slice_index (hosted_next 0 (resumed_machine choice)).shared.memory stored_offset ≡ 7
 
 -- The facts of the second machine that are computed, in the order of the moves. These are create, the call run on hart 1, the load, the refused call
 -- of hart 0, and the store.
 record SecondMachineFacts (choice : ℕ) : Type 0 where
-  size : length (hosted_next 1 (hosted_start 2 1)).shared.memory ≡ length (hosted_ram choice)
-  saved : context_at (second_machine choice).shared.contexts 0 ≡ Some context
+  same_size : length (hosted_next 1 (hosted_start 2 1)).shared.memory ≡ length (hosted_ram choice)
+  saved_context_is : context_at (second_machine choice).shared.contexts 0 ≡ Some context
   -- the two steps of hart 1 that call run
-  before_run : IsOtherStep 1 (second_machine choice)
-  run : IsOtherStep 1 (hosted_next 1 (second_machine choice))
+  run_step_1 : IsOtherStep 1 (second_machine choice)
+  run_step_2 : IsOtherStep 1 (hosted_next 1 (second_machine choice))
   -- the load of the enclave
-  loads : IsBeforeOwnStep 1 choice (second_entered choice)
+  before_load : IsBeforeOwnStep 1 choice (second_entered_machine choice)
   -- the refused call of hart 0
-  refused_call : IsOtherStep 0 (hosted_next 1 (second_entered choice))
+  refused_call : IsOtherStep 0 (hosted_next 1 (second_entered_machine choice))
   -- the store of the enclave, which stores 7
-  stores : IsBeforeOwnStep 1 choice (after_refusal choice)
-  stored : slice_index (hosted_next 1 (after_refusal choice)).shared.memory stored_offset ≡ 7
+  before_store : IsBeforeOwnStep 1 choice (refused_machine choice)
+  stored_word_is : slice_index (hosted_next 1 (refused_machine choice)).shared.memory stored_offset ≡ 7
 
 -- Proves the facts of the first machine by computation of the steps, whatever byte the host chooses.
 first_machine_facts : (choice : ℕ) → FirstMachineFacts choice
@@ -158,22 +158,22 @@ unfolding at_start step_of monitored_step handled call_handled called performed 
     written_csr csr_changed
     decoded by_bits read write verdict matching_entry covers ones_at_end kept_bits state_refusals entered_slot left timer_stopped
 first_machine_facts choice = record {
-  size = refl;
+  same_size = refl;
   live = refl;
-  saved = refl;
-  hidden = refl;
-  before_run = record { not_on_hart = refl; live = refl };
-  run = record { not_on_hart = refl; live = refl };
-  loads = record { on_hart = refl; clear = refl; memory = refl };
+  saved_context_is = refl;
+  choice_outside_region = refl;
+  run_step_1 = record { not_on_hart = refl; live = refl };
+  run_step_2 = record { not_on_hart = refl; live = refl };
+  before_load = record { on_hart = refl; line_is_clear = refl; memory_is = refl };
   load_ignores_choice = refl;
   line_is_set = refl;
   interrupted_live = refl;
   resume_1 = record { not_on_hart = refl; live = refl };
   resume_2 = record { not_on_hart = refl; live = refl };
   resume_3 = record { not_on_hart = refl; live = refl };
-  stores = record { on_hart = refl; clear = refl; memory = refl };
+  before_store = record { on_hart = refl; line_is_clear = refl; memory_is = refl };
   store_ignores_choice = refl;
-  stored = refl;
+  stored_word_is = refl;
 }
 
 -- Proves the facts of the second machine by computation of the steps, whatever byte the host chooses.
@@ -183,14 +183,14 @@ unfolding at_start step_of monitored_step handled call_handled called performed 
     written_csr csr_changed
     decoded by_bits read write verdict matching_entry covers ones_at_end kept_bits state_refusals entered_slot left timer_stopped
 second_machine_facts choice = record {
-  size = refl;
-  saved = refl;
-  before_run = record { not_on_hart = refl; live = refl };
-  run = record { not_on_hart = refl; live = refl };
-  loads = record { on_hart = refl; clear = refl; memory = refl };
+  same_size = refl;
+  saved_context_is = refl;
+  run_step_1 = record { not_on_hart = refl; live = refl };
+  run_step_2 = record { not_on_hart = refl; live = refl };
+  before_load = record { on_hart = refl; line_is_clear = refl; memory_is = refl };
   refused_call = record { not_on_hart = refl; live = refl };
-  stores = record { on_hart = refl; clear = refl; memory = refl };
-  stored = refl;
+  before_store = record { on_hart = refl; line_is_clear = refl; memory_is = refl };
+  stored_word_is = refl;
 }
 
 -- the two calls of create made the same record
@@ -270,11 +270,13 @@ at_one_point choice other_choice =
     let second_facts = second_machine_facts other_choice in
     record {
       context = context;
-      first = saved_continues 0 (first_machine choice) context (invariant_after_create 1 0 choice first_facts.size) first_facts.saved;
-      second = saved_continues 0 (second_machine other_choice) context (invariant_after_create 2 1 other_choice second_facts.size) second_facts.saved;
+      first = saved_continues 0 (first_machine choice) context (invariant_after_create 1 0 choice first_facts.same_size) first_facts.saved_context_is;
+      second = saved_continues 0 (second_machine other_choice) context (invariant_after_create 2 1 other_choice second_facts.same_size)
+          second_facts.saved_context_is;
       live = first_facts.live;
       identity = same_identity choice other_choice;
-      memory = equal_images (λ byte. not (has (region (first_machine choice).shared.table 0) byte)) choice other_choice first_facts.hidden;
+      memory = equal_images (λ byte. not (has (region (first_machine choice).shared.table 0) byte)) choice other_choice
+          first_facts.choice_outside_region;
     }
 
 -- A step of the enclave that does not read the byte of the host's choice is an own step of both machines. The bytes of the window that it reads are
@@ -284,9 +286,10 @@ own_step : (choice other_choice : ℕ) (one other : MonitoredMachine) → IsBefo
 own_step choice other_choice one other first_facts second_facts ignores_choice_byte = record {
   first = first_facts.on_hart;
   second = second_facts.on_hart;
-  line = first_facts.clear;
-  line_too = second_facts.clear;
-  window = equal_memories _ choice other_choice one.shared.memory other.shared.memory first_facts.memory second_facts.memory ignores_choice_byte;
+  line = first_facts.line_is_clear;
+  line_too = second_facts.line_is_clear;
+  window = equal_memories _ choice other_choice one.shared.memory other.shared.memory first_facts.memory_is second_facts.memory_is
+      ignores_choice_byte;
 }
 
 -- the moves of the example are permitted, for any two bytes
@@ -295,13 +298,14 @@ moves_permitted choice other_choice =
     let first_facts = first_machine_facts choice in
     let second_facts = second_machine_facts other_choice in
     -- the host of each machine calls run
-    and_then (inl first_facts.before_run.not_on_hart, first_facts.before_run.live)
-    (and_then (inl first_facts.run.not_on_hart, first_facts.run.live)
-    (and_then (inl second_facts.before_run.not_on_hart, second_facts.before_run.live)
-    (and_then (inl second_facts.run.not_on_hart, second_facts.run.live)
+    and_then (inl first_facts.run_step_1.not_on_hart, first_facts.run_step_1.live)
+    (and_then (inl first_facts.run_step_2.not_on_hart, first_facts.run_step_2.live)
+    (and_then (inl second_facts.run_step_1.not_on_hart, second_facts.run_step_1.live)
+    (and_then (inl second_facts.run_step_2.not_on_hart, second_facts.run_step_2.live)
     -- the load in both machines; then the timer line is set in the first
     (and_then
-    (own_step choice other_choice (entered choice) (second_entered other_choice) first_facts.loads second_facts.loads first_facts.load_ignores_choice)
+    (own_step choice other_choice (entered_machine choice)
+    (second_entered_machine other_choice) first_facts.before_load second_facts.before_load first_facts.load_ignores_choice)
     (and_then tt
     -- the first machine: the interrupt, and the call resume
     (and_then (inr first_facts.line_is_set, first_facts.interrupted_live)
@@ -311,8 +315,8 @@ moves_permitted choice other_choice =
     -- the second machine: the refused call of hart 0; then the store in both machines
     (and_then (inl second_facts.refused_call.not_on_hart, second_facts.refused_call.live)
     (and_then
-    (own_step choice other_choice (resumed choice)
-    (after_refusal other_choice) first_facts.stores second_facts.stores first_facts.store_ignores_choice) tt)))))))))))
+    (own_step choice other_choice (resumed_machine choice)
+    (refused_machine other_choice) first_facts.before_store second_facts.before_store first_facts.store_ignores_choice) tt)))))))))))
 
 -- proves the example of a host's influence, by computation of its steps
 pub host_run : HostRunLaw
@@ -322,9 +326,9 @@ host_run choice other_choice =
     record {
       moves_permitted = moves_permitted choice other_choice;
       steps_equal =
-          life_law 0 0 hosted_moves (first_machine choice) (second_machine other_choice) (invariant_after_create 1 0 choice first_facts.size)
-          (invariant_after_create 2 1 other_choice second_facts.size) (legal_after_create 1 0 choice) (legal_after_create 2 1 other_choice)
+          life_law 0 0 hosted_moves (first_machine choice) (second_machine other_choice) (invariant_after_create 1 0 choice first_facts.same_size)
+          (invariant_after_create 2 1 other_choice second_facts.same_size) (legal_after_create 1 0 choice) (legal_after_create 2 1 other_choice)
           (at_one_point choice other_choice) (moves_permitted choice other_choice);
-      stored = first_facts.stored;
-      stored_too = second_facts.stored;
+      stored = first_facts.stored_word_is;
+      stored_too = second_facts.stored_word_is;
     }

@@ -61,8 +61,8 @@ effect_preserves (Bare machine) change invariant slot is_undisturbed = absurd is
 effect_preserves (Monitored machine) (Steps harts selected) invariant slot is_undisturbed =
     subst (IsPreservedIn slot (Monitored machine)) (sym (schedule_is_sched harts machine _ selected))
     (sched_integrity slot harts machine.state invariant is_undisturbed).preserved
-effect_preserves (Monitored machine) (OneByte address byte) invariant slot is_undisturbed =
-    poke_preserves slot address byte machine (write machine.state.shared.memory address (byte ∷ [])) refl is_undisturbed.1
+effect_preserves (Monitored machine) (OneByte address byte) invariant slot (slot_is_live, outside_region) =
+    poke_preserves slot address byte machine (write machine.state.shared.memory address (byte ∷ [])) refl outside_region
 effect_preserves (Monitored machine) _ invariant slot is_undisturbed = preserved_unchanged slot machine
 
 -- proves that a command preserves each enclave that it leaves undisturbed
@@ -152,8 +152,8 @@ preserved_itself slot (Bare machine) is_live = is_live
 -- proves the integrity law for lists of commands, by induction
 pub integrity : IntegrityLaw
 integrity slot bench [] invariant is_undisturbed = preserved_itself slot bench.target is_undisturbed
-integrity slot bench (command ∷ commands) invariant is_undisturbed =
+integrity slot bench (command ∷ commands) invariant (undisturbed_first, undisturbed_later) =
     let after = (execute bench command).state in
     preserved_after slot bench.target after.target (after_commands after commands).target
-    (command_preserves bench command invariant slot is_undisturbed.0)
-    (integrity slot after commands (command_keeps_invariant bench command invariant) is_undisturbed.1)
+    (command_preserves bench command invariant slot undisturbed_first)
+    (integrity slot after commands (command_keeps_invariant bench command invariant) undisturbed_later)

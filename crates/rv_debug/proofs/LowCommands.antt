@@ -63,36 +63,36 @@ low_step : (enclave hart : ℕ) (one other : MonitoredMachine) → Invariant one
 low_step enclave hart one other invariant equiv not_on_hart =
     record { low = not_on_hart; window = λ running. window_read enclave hart one other (same_window enclave one other invariant equiv) }
 
--- `both` has the moves in which both machines step these harts, in order
-abbrev both : List ℕ → List Move
-both [] = []
-both (hart ∷ harts) = Both (StepOf hart) ∷ both harts
+-- `moves_of_both` has the moves in which both machines step these harts, in order
+abbrev moves_of_both : List ℕ → List Move
+moves_of_both [] = []
+moves_of_both (hart ∷ harts) = Both (StepOf hart) ∷ moves_of_both harts
 
--- the moves of `both` change no timer line
-both_steps : (harts : List ℕ) → are_steps (both harts) ≡ true
-both_steps [] = refl
-both_steps (hart ∷ harts) = both_steps harts
+-- the moves of `moves_of_both` change no timer line
+moves_are_steps : (harts : List ℕ) → are_steps (moves_of_both harts) ≡ true
+moves_are_steps [] = refl
+moves_are_steps (hart ∷ harts) = moves_are_steps harts
 
--- the steps of the first machine in the moves of `both` are those of the list
-both_first : (harts : List ℕ) → first_steps (both harts) ≡ harts
-both_first [] = refl
-both_first (hart ∷ harts) = ap (λ (later_harts : List ℕ). hart ∷ later_harts) (both_first harts)
+-- the steps of the first machine in the moves of `moves_of_both` are those of the list
+first_steps_are : (harts : List ℕ) → first_steps (moves_of_both harts) ≡ harts
+first_steps_are [] = refl
+first_steps_are (hart ∷ harts) = ap (λ (later_harts : List ℕ). hart ∷ later_harts) (first_steps_are harts)
 
--- the steps of the second machine in the moves of `both` are those of the list
-both_second : (harts : List ℕ) → second_steps (both harts) ≡ harts
-both_second [] = refl
-both_second (hart ∷ harts) = ap (λ (later_harts : List ℕ). hart ∷ later_harts) (both_second harts)
+-- the steps of the second machine in the moves of `moves_of_both` are those of the list
+second_steps_are : (harts : List ℕ) → second_steps (moves_of_both harts) ≡ harts
+second_steps_are [] = refl
+second_steps_are (hart ∷ harts) = ap (λ (later_harts : List ℕ). hart ∷ later_harts) (second_steps_are harts)
 
--- One step of each of these harts, in order. The steps are low in the first machine (`low`) and are moves of both machines (`moves`). They leave the
--- machines equivalent in the guest view (`state`).
+-- One step of each of these harts, in order. The steps are low in the first machine (`low_steps`) and are moves of both machines (`moves`). They
+-- leave the machines equivalent in the guest view (`equiv_after`).
 pub record AreLowMoves (enclave : ℕ) (harts : List ℕ) (one other : MonitoredMachine) : Type 0 where
-  pub low : AreLowSteps enclave harts one
-  moves : AreMoves enclave (both harts) one other
-  state : EquivToGuests enclave (sched harts one).state (sched harts other).state
+  pub low_steps : AreLowSteps enclave harts one
+  moves : AreMoves enclave (moves_of_both harts) one other
+  equiv_after : EquivToGuests enclave (sched harts one).state (sched harts other).state
 
 -- an empty list of steps consists of low moves, if the machines are equivalent in the guest view
 no_moves : (enclave : ℕ) (one other : MonitoredMachine) → EquivToGuests enclave one other → AreLowMoves enclave [] one other
-no_moves enclave one other equiv = record { low = tt; moves = tt; state = equiv }
+no_moves enclave one other equiv = record { low_steps = tt; moves = tt; equiv_after = equiv }
 
 -- a step of a hart on which the enclave does not run, followed by low moves, is a list of low moves
 one_more_move : (enclave hart : ℕ) (harts : List ℕ) (one other : MonitoredMachine) → Invariant one → EquivToGuests enclave one other
@@ -100,16 +100,22 @@ one_more_move : (enclave hart : ℕ) (harts : List ℕ) (one other : MonitoredMa
     → AreLowMoves enclave harts (step_of hart one).state (step_of hart other).state → AreLowMoves enclave (hart ∷ harts) one other
 one_more_move enclave hart harts one other invariant equiv not_on_hart rest_moves =
     record {
-      low = (not_on_hart, rest_moves.low);
+      low_steps = (not_on_hart, rest_moves.low_steps);
       moves = (inl (low_step enclave hart one other invariant equiv not_on_hart), rest_moves.moves);
-      state = rest_moves.state;
+      equiv_after = rest_moves.equiv_after;
     }
 
 -- steps that are low moves in two machines are moves of both machines
 low_moves_are_moves : (enclave : ℕ) (harts : List ℕ) (one other : MonitoredMachine) → AreLowMoves enclave harts one other
     → StepsAreMoves enclave one other harts harts
 low_moves_are_moves enclave harts one other low_moves =
-    record { moves = both harts; steps = both_steps harts; first = both_first harts; second = both_second harts; are = low_moves.moves }
+    record {
+      moves = moves_of_both harts;
+      steps = moves_are_steps harts;
+      first = first_steps_are harts;
+      second = second_steps_are harts;
+      are = low_moves.moves;
+    }
 
 -- ---- schedules
 
@@ -142,9 +148,9 @@ low_schedule enclave (hart ∷ harts) one other summary invariant other_invarian
 -- Two runs, which have executed `before` steps, execute `count` more steps. They end with equal summaries, and the steps are low moves.
 record IsLowRun (enclave hart before : ℕ) (one other : MonitoredMachine) (one_run other_run : AfterRun MonitoredMachine) : Type 0 where
   count : ℕ
-  steps : one_run.ran.steps ≡ before + count
-  ran : one_run.ran ≡ other_run.ran
-  low : AreLowMoves enclave (replicate count hart) one other
+  steps_are : one_run.ran.steps ≡ before + count
+  same_summary : one_run.ran ≡ other_run.ran
+  low_moves : AreLowMoves enclave (replicate count hart) one other
 
 -- runs of hart `hart` in two machines that are equivalent in the guest view
 module _ (enclave hart : ℕ) (breaks watches : List ℕ) where
@@ -188,13 +194,14 @@ module _ (enclave hart : ℕ) (breaks watches : List ℕ) where
       → LowUnlessEntered before other (run_from remaining before) (run_from remaining (with_state before other))
   unfolding run
   low-run zero before other invariant other_invariant equiv not_on_hart not_entered =
-      record { count = 0; steps = omega arith; ran = refl; low = no_moves enclave before.state other equiv }
+      record { count = 0; steps_are = omega arith; same_summary = refl; low_moves = no_moves enclave before.state other equiv }
   low-run (suc remaining) before other invariant other_invariant equiv not_on_hart not_entered =
       let step_of_one = step_of hart before.state in
       let step_of_other = step_of hart other in
       let after = after_step before step_of_one.outcome step_of_one.state in
       let alike_after = guest_step_equiv enclave hart before.state other invariant other_invariant equiv not_on_hart in
       elim (cases_Bool (enters enclave step_of_one.outcome.entered)) [
+        -- the step enters the enclave: the run then enters it too, against the premise
         | inl enters_slot ↦ absurd (both_ways _ not_entered
             (run_enters enclave hart breaks watches remaining before step_of_one.outcome step_of_one.state
             (entered_some enclave step_of_one.outcome.entered enters_slot)))
@@ -211,12 +218,13 @@ module _ (enclave hart : ℕ) (breaks watches : List ℕ) where
             next_cases (LowUnlessEntered before other) after (with_state after step_of_other.state) (run_from remaining after)
             (run_from remaining (with_state after step_of_other.state))
             (lowest_accessed watches step_of_one.outcome.step.touched) (remaining == 0) (is_among (hart_pc hart step_of_one.state) breaks)
-            (λ stop not_entered. record { count = 1; steps = omega arith; ran = refl; low = first_move })
+            (λ stop not_entered. record { count = 1; steps_are = omega arith; same_summary = refl; low_moves = first_move })
             (λ not_entered. let rest_run = rest_low not_entered in record {
               count = suc rest_run.count;
-              steps = rest_run.steps ∙ omega arith;
-              ran = rest_run.ran;
-              low = one_more_move enclave hart (replicate rest_run.count hart) before.state other invariant equiv not_on_hart rest_run.low;
+              steps_are = rest_run.steps_are ∙ omega arith;
+              same_summary = rest_run.same_summary;
+              low_moves = one_more_move enclave hart (replicate rest_run.count hart) before.state other invariant equiv not_on_hart
+                  rest_run.low_moves;
             }) in
             -- the outcomes of the step are equal, and the next instruction is at a breakpoint in both machines or in neither
             let same_break = ap (λ (pc : ℕ). is_among pc breaks) (pc_alike step_of_one.state step_of_other.state alike_after.state still_off) in
@@ -258,7 +266,7 @@ module _ (enclave hart : ℕ) (one other : MonitoredMachine) (invariant : Invari
       (sym (schedule_is_sched harts (record { hart = hart; state = one }) _ selected))
       (subst (SameWindowAfter (selected_at selected (sched harts one).state))
       (sym (schedule_is_sched harts (record { hart = hart; state = other }) _ selected))
-      (λ running. same_window enclave (sched harts one).state (sched harts other).state (sched_invariant harts one invariant) low_moves.state))
+      (λ running. same_window enclave (sched harts one).state (sched harts other).state (sched_invariant harts one invariant) low_moves.equiv_after))
 
   -- `ran_of` is the summary of a run of the machine
   abbrev pub ran_of : MonitoredMachine → List ℕ → List ℕ → ℕ → Ran
@@ -266,8 +274,8 @@ module _ (enclave hart : ℕ) (one other : MonitoredMachine) (invariant : Invari
 
   -- the runs of a command in the two machines have equal summaries, and their steps are low moves
   pub record LowRuns (at_breaks at_watches : List ℕ) (count : ℕ) : Type 0 where
-    ran : ran_of one at_breaks at_watches count ≡ ran_of other at_breaks at_watches count
-    pub low : AreLowMoves enclave (replicate (ran_of one at_breaks at_watches count).steps hart) one other
+    same_summary : ran_of one at_breaks at_watches count ≡ ran_of other at_breaks at_watches count
+    pub low_moves : AreLowMoves enclave (replicate (ran_of one at_breaks at_watches count).steps hart) one other
 
   -- a run of a hart without the enclave, which does not enter the enclave, has equal summaries in both machines, and its steps are low moves
   pub low_runs : (at_breaks at_watches : List ℕ) (count : ℕ) → runs_on enclave hart one ≡ false
@@ -282,10 +290,10 @@ module _ (enclave hart : ℕ) (one other : MonitoredMachine) (invariant : Invari
       let alike_after = low-run enclave hart at_breaks at_watches count (no_steps one) other invariant other_invariant equiv not_on_hart
       run_not_entered in
       let same_count : (ran_of one at_breaks at_watches count).steps ≡ alike_after.count =
-      ap (λ (ran : Ran). ran.steps) one_ran_is ∙ alike_after.steps ∙ omega arith in
+      ap (λ (ran : Ran). ran.steps) one_ran_is ∙ alike_after.steps_are ∙ omega arith in
       record {
-        ran = one_ran_is ∙ alike_after.ran ∙ sym other_ran_is;
-        low = subst (λ (count : ℕ). AreLowMoves enclave (replicate count hart) one other) (sym same_count) alike_after.low;
+        same_summary = one_ran_is ∙ alike_after.same_summary ∙ sym other_ran_is;
+        low_moves = subst (λ (count : ℕ). AreLowMoves enclave (replicate count hart) one other) (sym same_count) alike_after.low_moves;
       }
 
   -- the command `step` or `run` is low: its steps are moves, both runs stop for the same reason, and the windows are equal after the runs
@@ -300,12 +308,12 @@ module _ (enclave hart : ℕ) (one other : MonitoredMachine) (invariant : Invari
   low_runs_are_low : (at_breaks at_watches : List ℕ) (count : ℕ) → LowRuns at_breaks at_watches count → LowRunCommand at_breaks at_watches count
   low_runs_are_low at_breaks at_watches count runs =
       let harts = replicate (ran_of one at_breaks at_watches count).steps hart in (
-        subst (λ (ran : Ran). StepsAreMoves enclave one other harts (replicate ran.steps hart)) runs.ran
-            (low_moves_are_moves enclave harts one other runs.low),
-        ap (λ (ran : Ran). ran.stop) runs.ran,
+        subst (λ (ran : Ran). StepsAreMoves enclave one other harts (replicate ran.steps hart)) runs.same_summary
+            (low_moves_are_moves enclave harts one other runs.low_moves),
+        ap (λ (ran : Ran). ran.stop) runs.same_summary,
         subst (λ (ran : Ran). SameWindowAfter (done (as_target one) (Steps harts hart))
-            (done (as_target other) (Steps (replicate ran.steps hart) hart))) runs.ran
-            (same_window_after harts hart runs.low),
+            (done (as_target other) (Steps (replicate ran.steps hart) hart))) runs.same_summary
+            (same_window_after harts hart runs.low_moves),
       )
 
   -- `sched_of` is the effect of the command `sched`, where `exist` states whether its harts exist
@@ -323,23 +331,23 @@ module _ (enclave hart : ℕ) (one other : MonitoredMachine) (invariant : Invari
   no_steps_are_moves = record { moves = []; steps = refl; first = refl; second = refl; are = tt }
 
   -- a schedule is low, if the enclave runs on none of its harts and the schedule does not enter the enclave
-  low_sched : (harts : List ℕ) (exist other_exist : Bool) → exist ≡ other_exist → RunsOnNone enclave harts one
+  sched_is_low : (harts : List ℕ) (exist other_exist : Bool) → exist ≡ other_exist → RunsOnNone enclave harts one
       → is_entered enclave (entered_by (as_target one) (sched_of harts exist)) ≡ false → LowSched (sched_of harts exist) (sched_of harts other_exist)
-  low_sched harts true true same_exist runs_on_none not_entered =
+  sched_is_low harts true true same_exist runs_on_none not_entered =
       let low_moves = low_schedule enclave harts (record { hart = hart; state = one }) (record { hart = hart; state = other })
       _ invariant other_invariant equiv runs_on_none not_entered in
       (low_moves_are_moves enclave harts one other low_moves, same_window_after harts hart low_moves)
-  low_sched harts false false same_exist runs_on_none not_entered = (no_steps_are_moves, window_equal)
-  low_sched harts _ _ same_exist runs_on_none not_entered = cc
+  sched_is_low harts false false same_exist runs_on_none not_entered = (no_steps_are_moves, window_equal)
+  sched_is_low harts _ _ same_exist runs_on_none not_entered = cc
 
   -- the command `hart` is low, where `exist` and `other_exist` state whether each machine has the hart
-  low_hart : (number : ℕ) (exist other_exist : Bool)
+  hart_command_is_low : (number : ℕ) (exist other_exist : Bool)
       → LowSched (if exist then Steps [] number else Nothing) (if other_exist then Steps [] number else Nothing)
   unfolding scheduled_steps
-  low_hart number true true = (no_steps_are_moves, window_equal)
-  low_hart number true false = (no_steps_are_moves, window_equal)
-  low_hart number false true = (no_steps_are_moves, window_equal)
-  low_hart number false false = (no_steps_are_moves, window_equal)
+  hart_command_is_low number true true = (no_steps_are_moves, window_equal)
+  hart_command_is_low number true false = (no_steps_are_moves, window_equal)
+  hart_command_is_low number false true = (no_steps_are_moves, window_equal)
+  hart_command_is_low number false false = (no_steps_are_moves, window_equal)
 
   -- the windows of the enclave are equal after equal pokes
   low_poke : (address byte : ℕ) → SameWindowAfter (poke_of (as_target one) (write one.shared.memory address (byte ∷ [])))
@@ -348,6 +356,7 @@ module _ (enclave hart : ℕ) (one other : MonitoredMachine) (invariant : Invari
       let same_size = related.memory.size in
       let bytes = byte ∷ [] in
       elim (cases_Bool (is_inside one.shared.memory address 1)) [
+        -- the address is in RAM: the same byte is written to both memories
         | inl in_ram ↦
             let write_to_one = write-some one.shared.memory address bytes in_ram in
             let write_to_other = write-some other.shared.memory address bytes (rw (← same_size) in_ram) in
@@ -355,40 +364,41 @@ module _ (enclave hart : ℕ) (one other : MonitoredMachine) (invariant : Invari
             same_write
             (λ (byte_address : ℕ). not (has (window one.shared.table enclave) byte_address)) one.shared.memory other.shared.memory address bytes _ _
             (window_equal running) write_to_one write_to_other)
+        -- the address is outside RAM: neither memory changes
         | inr outside_ram ↦
             let write_to_one = write-none one.shared.memory address bytes outside_ram in
             let write_to_other = write-none other.shared.memory address bytes (rw (← same_size) outside_ram) in
             rw (write_to_one, write_to_other) window_equal
       ]
 
-  -- the claim of `low_kind`: the command is low in the two benches
+  -- the claim of `command_is_low`: the command is low in the two benches
   abbrev IsLow : Command → Type 0
   IsLow command = IsLowCommand enclave (as_bench one) (as_bench other) command
 
   -- each command that steps no hart of the enclave, and does not enter the enclave, is low
-  low_kind : (command : Command) → RunsOnNoneIn enclave (harts_named (as_target one) command) (as_target one)
+  command_is_low : (command : Command) → RunsOnNoneIn enclave (harts_named (as_target one) command) (as_target one)
       → is_entered enclave (execute (as_bench one) command).entered ≡ false → IsLow command
   unfolding execute
   -- `step` and `run`: the run has equal summaries and low moves
-  low_kind (Step count) runs_on_none not_entered =
-      let (steps, stop, after) = low_runs_are_low [] [] count (low_runs [] [] count runs_on_none.0 not_entered) in
+  command_is_low (Step count) (not_on_hart, _) not_entered =
+      let (steps, stop, after) = low_runs_are_low [] [] count (low_runs [] [] count not_on_hart not_entered) in
       record { same = record { same = refl; steps = steps; stop = stop }; window = after }
-  low_kind (Run count) runs_on_none not_entered =
-      let (steps, stop, after) = low_runs_are_low breaks watches count (low_runs breaks watches count runs_on_none.0 not_entered) in
+  command_is_low (Run count) (not_on_hart, _) not_entered =
+      let (steps, stop, after) = low_runs_are_low breaks watches count (low_runs breaks watches count not_on_hart not_entered) in
       record { same = record { same = refl; steps = steps; stop = stop }; window = after }
   -- `sched`: both machines have the same harts, and the steps of the schedule are low moves
-  low_kind (Sched schedule) runs_on_none not_entered =
+  command_is_low (Sched schedule) runs_on_none not_entered =
       let harts = harts_in schedule in
       let same_exist = ap (λ (hart_count : ℕ). has_all hart_count harts) related.harts in
-      let (steps, after) = low_sched harts (has_all (count_of one) harts) (has_all (count_of other) harts) same_exist runs_on_none not_entered in
+      let (steps, after) = sched_is_low harts (has_all (count_of one) harts) (has_all (count_of other) harts) same_exist runs_on_none not_entered in
       record { same = record { same = refl; steps = steps; stop = refl }; window = after }
   -- commands without steps
-  low_kind (Hart number) runs_on_none not_entered =
-      let (steps, after) = low_hart number (nat_lt number (count_of one)) (nat_lt number (count_of other)) in
+  command_is_low (Hart number) runs_on_none not_entered =
+      let (steps, after) = hart_command_is_low number (nat_lt number (count_of one)) (nat_lt number (count_of other)) in
       record { same = record { same = refl; steps = steps; stop = refl }; window = after }
-  low_kind (Poke address byte) runs_on_none not_entered =
+  command_is_low (Poke address byte) runs_on_none not_entered =
       record { same = record { same = refl; steps = no_steps_are_moves; stop = refl }; window = low_poke address byte }
-  low_kind _ runs_on_none not_entered = record { same = record { same = refl; steps = no_steps_are_moves; stop = refl }; window = window_equal }
+  command_is_low _ runs_on_none not_entered = record { same = record { same = refl; steps = no_steps_are_moves; stop = refl }; window = window_equal }
 
 -- ---- any two benches
 
@@ -416,7 +426,7 @@ targets_low enclave (Monitored one) (Monitored other) breaks watches command inv
     not_entered =
     subst (λ (selected_hart : ℕ). IsLowCommand enclave (bench_of (Monitored one) breaks watches)
     (bench_of (selected_at selected_hart other.state) breaks watches) command) related.hart
-    (low_kind enclave one.hart one.state other.state invariant other_invariant related.state windows_equal breaks watches command runs_on_none
+    (command_is_low enclave one.hart one.state other.state invariant other_invariant related.state windows_equal breaks watches command runs_on_none
     not_entered)
 targets_low enclave (Bare one) (Bare other) breaks watches command invariant other_invariant related windows_equal runs_on_none not_entered =
     bare_low enclave one other breaks watches command related

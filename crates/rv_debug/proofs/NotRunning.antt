@@ -106,7 +106,9 @@ pub scrambled_on_no_hart : (enclave : ℕ) (target : Target) → TargetInvariant
     → RunsOnNoHart enclave target
 scrambled_on_no_hart enclave (Bare machine) invariant can_be_scrambled = tt
 scrambled_on_no_hart enclave (Monitored selected) invariant can_be_scrambled = λ hart. elim (cases_Bool (runs_on enclave hart selected.state)) [
-  | inl on_hart ↦ absurd (both_ways _ (slot_rests (slot_at selected.state.shared.table enclave) can_be_scrambled).1
-      (invariant.shared.running enclave ∙ runs_among enclave hart selected.state on_hart))
+  -- the table says that the enclave does not run, but it runs on the hart
+  | inl on_hart ↦
+      let (_, not_running) = slot_rests (slot_at selected.state.shared.table enclave) can_be_scrambled in
+      absurd (both_ways _ not_running (invariant.shared.running enclave ∙ runs_among enclave hart selected.state on_hart))
   | inr not_on_hart ↦ not_on_hart
 ]

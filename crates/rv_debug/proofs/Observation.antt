@@ -54,10 +54,10 @@ shown_whole hidden text not_hidden = rw not_hidden refl
 all_steps_count : (enclave hart count : ℕ) (machine : MonitoredMachine) (ran : HartRan) → AreLowSteps enclave (replicate count hart) machine
     → (observed_steps enclave hart (replicate count hart) machine ran).steps ≡ ran.steps + count
 all_steps_count enclave hart zero machine ran low_steps = omega arith
-all_steps_count enclave hart (suc count) machine ran low_steps =
+all_steps_count enclave hart (suc count) machine ran (not_on_hart, later_steps_low) =
     let same_hart = eq-eqb hart hart refl in
-    let one_more : (with_observed_step enclave hart hart machine ran).steps ≡ ran.steps + 1 = rw (same_hart, low_steps.0) refl in
-    all_steps_count enclave hart count (step_of hart machine).state (with_observed_step enclave hart hart machine ran) low_steps.1
+    let one_more : (with_observed_step enclave hart hart machine ran).steps ≡ ran.steps + 1 = rw (same_hart, not_on_hart) refl in
+    all_steps_count enclave hart count (step_of hart machine).state (with_observed_step enclave hart hart machine ran) later_steps_low
     ∙ omega (arith, one_more)
 
 -- the observation of a run is its reply, if all of its steps count and the enclave does not run on the selected hart
@@ -122,7 +122,7 @@ module _ (enclave hart : ℕ) (machine : MonitoredMachine) (invariant : Invarian
       let after = steps_of as_target at_breaks at_watches count in
       run_observed_whole enclave as_target after
       (not_selected enclave after.state (subst (RunsOnNoHart enclave) (run_done as_target at_breaks at_watches count) on_no_hart))
-      (all_steps_count enclave hart after.ran.steps machine nothing_ran low_steps.low.low ∙ omega arith)
+      (all_steps_count enclave hart after.ran.steps machine nothing_ran low_steps.low_moves.low_steps ∙ omega arith)
 
   -- ---- every command
 

@@ -52,9 +52,9 @@ hidden_writes hidden memory other_memory address other_address byte other_byte m
 -- a slot whose region has a byte is live
 pub live_if_in_region : (maybe_info : Option SlotInfo) (address : ℕ) → has (region_of maybe_info) address ≡ true → is_some maybe_info ≡ true
 live_if_in_region None address in_region =
-    let bounds = and_parts (nat_le 0 address) (nat_lt address 0) in_region in
-    let contradiction = ltb-true address 0 bounds.1 in
-    absurd (omega (arith, contradiction))
+    let (not_below_0, before_end) = and_parts (nat_le 0 address) (nat_lt address 0) in_region in
+    let address_below_0 = ltb-true address 0 before_end in
+    absurd (omega (arith, address_below_0))
 live_if_in_region (Some info) address in_region = refl
 
 -- a byte of the region of a slot is in RAM, if the record of the slot is valid
@@ -67,9 +67,10 @@ region_in_ram memory None address valid in_region =
     cc
 region_in_ram memory (Some info) address valid in_region =
     let block = info.region in
-    let well_formed = and_parts (is_block_size block.size) _ valid.region in
-    let (block_from_ram_base, block_to_ram_end) =
-    inside-bounds memory block.base block.size (and_parts (block.base % block.size == 0) _ well_formed.1).1 in
+    -- a valid block has a permitted size, its base is a multiple of the size, and it is inside memory
+    let (size_is_permitted, aligned_and_inside) = and_parts (is_block_size block.size) _ valid.region in
+    let (base_is_aligned, block_is_inside) = and_parts (block.base % block.size == 0) _ aligned_and_inside in
+    let (block_from_ram_base, block_to_ram_end) = inside-bounds memory block.base block.size block_is_inside in
     let (not_below_base, before_end) = and_parts (nat_le block.base address) (nat_lt address (block.base + block.size)) in_region in
     let at_or_above_base = leb-true _ _ not_below_base in
     let below_end = ltb-true _ _ before_end in

@@ -121,12 +121,14 @@ moved enclave shown_hart
 moved enclave shown_hart (Both (StepOf hart) ∷ rest_moves) one other one_ran other_ran
     invariant other_invariant related all_steps (is_permitted, rest_permitted) same_ran =
     let alike = declassification_law enclave (Both (StepOf hart) ∷ []) one other invariant other_invariant related (is_permitted, tt) in
+    -- the outcomes of the two steps are equal, if the step is low
+    let (same_outcomes_if_low, _) = alike.outcomes in
     let same_after : IsLowStep enclave hart one other ⊎ ExitsAlike enclave hart one other
     → SameUnlessOnHart enclave shown_hart (step_of hart one).state (with_observed_step enclave shown_hart hart one one_ran)
     (with_observed_step enclave shown_hart hart other other_ran) =
     λ step_is. elim step_is [
       | inl low_step ↦
-          same_after_low enclave shown_hart hart one other one_ran other_ran related same_ran low_step.low (alike.outcomes.0 low_step.low)
+          same_after_low enclave shown_hart hart one other one_ran other_ran related same_ran low_step.low (same_outcomes_if_low low_step.low)
       | inr exits_alike ↦ same_after_exit enclave shown_hart hart one other one_ran other_ran related same_ran exits_alike
     ] in
     let moved_rest =

@@ -78,15 +78,15 @@ unfolding execute
 exit_in_later_command hart harts machine target breaks watches [] entry exit invariant target_invariant same_context saved_is leaves =
     exit_in_command hart harts machine entry exit invariant saved_is leaves
 exit_in_later_command hart harts machine (Bare bare_machine) breaks watches (command ∷ commands)
-    entry exit invariant target_invariant same_context saved_is later = absurd later.1
+    entry exit invariant target_invariant same_context saved_is (enclave_runs_through, leaves_later) = absurd leaves_later
 exit_in_later_command hart harts machine (Monitored selected) breaks watches
-    (command ∷ commands) entry exit invariant target_invariant same_context saved_is later =
+    (command ∷ commands) entry exit invariant target_invariant same_context saved_is (enclave_runs_through, leaves_later) =
     let bench = bench_of (Monitored selected) breaks watches in
     let next = (execute bench command).state in
     exit_in_later_command hart (harts_stepped (effect bench command)) selected.state next.target next.breaks next.watches commands entry exit
     target_invariant
     (command_keeps_invariant bench command target_invariant) (context_after_effect hart selected (effect bench command))
-    (same_context ∙ steps_keep hart harts machine later.0 ∙ saved_is) later.1
+    (same_context ∙ steps_keep hart harts machine enclave_runs_through ∙ saved_is) leaves_later
 
 -- ---- the step that enters the enclave
 
@@ -94,7 +94,8 @@ exit_in_later_command hart harts machine (Monitored selected) breaks watches
 runs_at_first : (hart : ℕ) (harts : List ℕ) (machine : MonitoredMachine) (after : BenchState) (commands : List Command) (exit : HartView)
     → LeavesLater hart harts machine after commands exit → is_host (hart_state_of hart machine).world ≡ false
 runs_at_first hart harts machine after [] exit leaves = first_runs hart leaves.before machine leaves.runs
-runs_at_first hart harts machine after (command ∷ commands) exit later = first_runs hart harts machine later.0
+runs_at_first hart harts machine after (command ∷ commands) exit (enclave_runs_through, leaves_later) =
+    first_runs hart harts machine enclave_runs_through
 
 -- The exit restores the host, if the first command enters the enclave and it exits in this command or a later one. The proof takes the state before
 -- the step that enters the enclave, and follows the saved context from there.

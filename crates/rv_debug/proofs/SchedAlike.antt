@@ -28,15 +28,15 @@ pub record BothEnter (enclave : ℕ) (one other : AfterSchedule) : Type 0 where
   pub one_enters : is_entered enclave one.did.entered ≡ true
   pub other_enters : is_entered enclave other.did.entered ≡ true
 
--- Neither schedule entered `enclave`. Both have equal summaries (`did`), and end in monitored machines (`end_of_one`, `end_of_other`) that are
--- equivalent except for `enclave`. If the enclave ran on no hart of `start`, it runs on none at the end.
+-- Neither schedule entered `enclave`. Both have equal summaries (`same_summary`), and end in monitored machines (`end_of_one`, `end_of_other`) that
+-- are equivalent except for `enclave`. If the enclave ran on no hart of `start`, it runs on none at the end.
 pub record NeitherEnters (enclave : ℕ) (start : Selected) (one other : AfterSchedule) : Type 0 where
   pub end_of_one : Selected
   pub end_of_other : Selected
   pub one_state_is : one.state ≡ Monitored end_of_one
   pub other_state_is : other.state ≡ Monitored end_of_other
-  pub did : one.did ≡ other.did
-  pub state : SelectedEquivExcept enclave end_of_one end_of_other
+  pub same_summary : one.did ≡ other.did
+  pub equiv_ends : SelectedEquivExcept enclave end_of_one end_of_other
   pub on_no_hart : RunsOnNoHart enclave (Monitored start) → RunsOnNoHart enclave (Monitored end_of_one)
 
 -- either both schedules enter `enclave`, or neither enters it and both have equal results
@@ -60,8 +60,8 @@ alike_from_earlier enclave start later one other stays_off (inr neither_enters) 
   end_of_other = neither_enters.end_of_other;
   one_state_is = neither_enters.one_state_is;
   other_state_is = neither_enters.other_state_is;
-  did = neither_enters.did;
-  state = neither_enters.state;
+  same_summary = neither_enters.same_summary;
+  equiv_ends = neither_enters.equiv_ends;
   on_no_hart = λ on_no_hart. neither_enters.on_no_hart (stays_off on_no_hart);
 })
 
@@ -70,9 +70,9 @@ pub runs_on_none_after : (enclave hart : ℕ) (harts : List ℕ) (machine : Moni
     → enters enclave (step_of hart machine).outcome.entered ≡ false
     → RunsOnNone enclave harts machine → RunsOnNone enclave harts (step_of hart machine).state
 runs_on_none_after enclave hart [] machine does_not_enter runs_on_none = tt
-runs_on_none_after enclave hart (other_hart ∷ harts) machine does_not_enter runs_on_none = (
-  entry_law enclave hart other_hart machine runs_on_none.0 does_not_enter,
-  runs_on_none_after enclave hart harts machine does_not_enter runs_on_none.1,
+runs_on_none_after enclave hart (other_hart ∷ harts) machine does_not_enter (not_on_other_hart, on_none_of_rest) = (
+  entry_law enclave hart other_hart machine not_on_other_hart does_not_enter,
+  runs_on_none_after enclave hart harts machine does_not_enter on_none_of_rest,
 )
 
 -- the machines and the summary after one step of a hart, from its state and outcome
@@ -102,14 +102,14 @@ scheduled_steps_alike enclave [] one other summary invariant other_invariant equ
       end_of_other = other;
       one_state_is = refl;
       other_state_is = refl;
-      did = refl;
-      state = equiv;
+      same_summary = refl;
+      equiv_ends = equiv;
       on_no_hart = λ on_no_hart. on_no_hart;
     })
-scheduled_steps_alike enclave (hart ∷ harts) one other summary invariant other_invariant equiv runs_on_none =
+scheduled_steps_alike enclave (hart ∷ harts) one other summary invariant other_invariant equiv (not_on_hart, on_none_of_rest) =
     let step_of_one = step_of hart one.state in
     let step_of_other = step_of hart other.state in
-    let alike_after = noninterference hart one.state invariant enclave other.state other_invariant equiv.state runs_on_none.0 in
+    let alike_after = noninterference hart one.state invariant enclave other.state other_invariant equiv.state not_on_hart in
     elim (cases_Bool (enters enclave step_of_one.outcome.entered)) [
       -- the step enters the enclave in both machines, so both schedules enter it
       | inl enters_slot ↦
@@ -123,12 +123,12 @@ scheduled_steps_alike enclave (hart ∷ harts) one other summary invariant other
       | inr does_not_enter ↦
           let next_of_one : Selected = record { hart = hart; state = step_of_one.state } in
           let next_of_other : Selected = record { hart = hart; state = step_of_other.state } in
-          let after = (next hart summary step_of_one.state step_of_one.outcome).did in
+          let next_summary = (next hart summary step_of_one.state step_of_one.outcome).did in
           let stays_off : RunsOnNoHart enclave (Monitored one) → RunsOnNoHart enclave (Monitored next_of_one) =
           λ off_before other_hart. entry_law enclave hart other_hart one.state (off_before other_hart) does_not_enter in
-          let alike = scheduled_steps_alike enclave harts next_of_one next_of_other after (invariant_law hart one.state invariant)
+          let alike = scheduled_steps_alike enclave harts next_of_one next_of_other next_summary (invariant_law hart one.state invariant)
           (invariant_law hart other.state other_invariant)
-          (record { hart = refl; state = alike_after.state }) (runs_on_none_after enclave hart harts one.state does_not_enter runs_on_none.1) in
+          (record { hart = refl; state = alike_after.state }) (runs_on_none_after enclave hart harts one.state does_not_enter on_none_of_rest) in
           alike_from_earlier enclave one next_of_one _ _ stays_off
           (subst (λ (outcome : Outcome). ScheduledStepsAlike enclave next_of_one
           (scheduled_steps harts (next hart summary step_of_one.state step_of_one.outcome))

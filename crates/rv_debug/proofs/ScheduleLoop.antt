@@ -50,9 +50,9 @@ schedule_enters_none (hart ∷ harts) before is_bare =
 
 -- ---- all scheduled steps
 
--- `harts_from` has the harts of the digits from index n on
+-- `harts_from` has the harts of the digits from an index on
 abbrev pub harts_from : ℕ → List ℕ → List ℕ
-harts_from n digits = map hart_of_digit (drop n digits)
+harts_from index digits = map hart_of_digit (drop index digits)
 
 -- the harts from an index on are the hart of the digit at this index, and the harts of the digits after it
 next_digit : (digits : List ℕ) (index digit : ℕ) → index < length digits → digit ≡ get_or digits index 0

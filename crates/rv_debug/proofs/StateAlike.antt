@@ -17,7 +17,9 @@ use Rattle.rv_debug.proofs.ScheduledSteps.{after_schedule}
 
 -- both executions enter `enclave` or neither does; if neither does, the benches after them are equivalent except for `enclave`
 record EquivUnlessEntered (enclave : ℕ) (one other : Executed) : Type 0 where
+  -- both executions enter `enclave`, or neither does
   entered : is_entered enclave one.entered ≡ is_entered enclave other.entered
+  -- if neither enters it, the benches after them are equivalent except for `enclave`
   state : is_entered enclave one.entered ≡ false → BenchesEquivExcept enclave one.state other.state
 
 -- two schedules that do not enter the enclave leave equivalent benches
@@ -32,10 +34,10 @@ equiv_if_not_entered enclave hart breaks watches start one other neither_enters 
     EquivUnlessEntered enclave (schedule_executed hart breaks watches (after_schedule (Monitored neither_enters.end_of_one) one.did))
     (schedule_executed hart breaks watches (after_schedule target other.did))) (sym neither_enters.other_state_is)
     (record {
-      entered = ap (λ (summary : Scheduled). is_entered enclave summary.entered) neither_enters.did;
+      entered = ap (λ (summary : Scheduled). is_entered enclave summary.entered) neither_enters.same_summary;
       state = λ not_entered.
           record {
-            target = record { hart = refl; state = let ends_equiv = neither_enters.state in ends_equiv.state };
+            target = record { hart = refl; state = let equiv_ends = neither_enters.equiv_ends in equiv_ends.state };
             breaks = refl;
             watches = refl;
           };
@@ -59,11 +61,12 @@ module _ (enclave hart : ℕ) (one other : MonitoredMachine)
         entered = entered_by (Monitored (as_selected machine)) sched_effect;
       }
 
-  -- a schedule of harts without the enclave leaves equivalent benches
+  -- a schedule of harts on which the enclave does not run leaves equivalent benches, unless it enters the enclave
   sched_equiv : (harts : List ℕ) (exist other_exist : Bool) → exist ≡ other_exist → Invariant one → Invariant other → RunsOnNone enclave harts one
       → EquivUnlessEntered enclave (sched_executed one harts exist) (sched_executed other harts other_exist)
   sched_equiv harts true true same_exist invariant other_invariant runs_on_none =
       elim (scheduled_steps_alike enclave harts (as_selected one) (as_selected other) _ invariant other_invariant equiv runs_on_none) [
+        -- both schedules enter the enclave, so nothing is claimed of the benches
         | inl both_enter ↦ record {
           entered = both_enter.one_enters ∙ sym both_enter.other_enters;
           state = λ not_entered. let contradiction : true ≡ false = sym both_enter.one_enters ∙ not_entered in cc;
@@ -74,7 +77,7 @@ module _ (enclave hart : ℕ) (one other : MonitoredMachine)
       record { entered = refl; state = λ not_entered. record { target = equiv; breaks = refl; watches = refl } }
   sched_equiv harts _ _ same_exist invariant other_invariant runs_on_none = cc
 
--- a schedule of harts without the enclave leaves equivalent benches, for two targets
+-- the command `sched` leaves two equivalent targets equivalent, if the enclave runs on none of its harts and the schedule does not enter it
 sched_targets : (enclave : ℕ) (one other : Target) (breaks watches : List ℕ) (schedule : Schedule) → TargetInvariant one → TargetInvariant other
     → TargetsEquivExcept enclave one other → is_blind enclave (bench_of one breaks watches) (Sched schedule) ≡ true
     → RunsOnNoneIn enclave (harts_in schedule) one

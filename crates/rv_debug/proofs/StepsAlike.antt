@@ -40,11 +40,11 @@ pub record BothEnter (enclave : ℕ) (one other : AfterRun MonitoredMachine) : T
   pub one_enters : is_entered enclave one.ran.entered ≡ true
   pub other_enters : is_entered enclave other.ran.entered ≡ true
 
--- Neither run entered `enclave`. Both have equal summaries (`ran`) and end in machines that are equivalent except for `enclave`, and the enclave does
--- not run on the hart of the run.
+-- Neither run entered `enclave`. Both have equal summaries and end in machines that are equivalent except for `enclave`, and the enclave does not run
+-- on the hart of the run.
 pub record NeitherEnters (enclave hart : ℕ) (one other : AfterRun MonitoredMachine) : Type 0 where
-  pub ran : one.ran ≡ other.ran
-  pub state : EquivExcept enclave one.state other.state
+  pub same_summary : one.ran ≡ other.ran
+  pub equiv_ends : EquivExcept enclave one.state other.state
   pub not_on_hart : runs_on enclave hart one.state ≡ false
 
 -- either both runs enter `enclave`, or neither enters it and both have equal results
@@ -102,7 +102,11 @@ module _ (enclave hart : ℕ) (breaks watches : List ℕ) where
       → EquivExcept enclave before.state other → runs_on enclave hart before.state ≡ false
       → RunAlike enclave hart (run_from remaining before) (run_from remaining (with_state before other))
   unfolding run
-  run-alike zero before other invariant other_invariant equiv not_on_hart = inr (record { ran = refl; state = equiv; not_on_hart = not_on_hart })
+  run-alike zero before other invariant other_invariant equiv not_on_hart = inr (record {
+    same_summary = refl;
+    equiv_ends = equiv;
+    not_on_hart = not_on_hart;
+  })
   run-alike (suc remaining) before other invariant other_invariant equiv not_on_hart =
       let step_of_one = step_of hart before.state in
       let step_of_other = step_of hart other in
@@ -110,6 +114,7 @@ module _ (enclave hart : ℕ) (breaks watches : List ℕ) where
       let watch_hit = lowest_accessed watches step_of_one.outcome.step.touched in
       let alike_after = noninterference hart before.state invariant enclave other other_invariant equiv not_on_hart in
       elim (cases_Bool (enters enclave step_of_one.outcome.entered)) [
+        -- the step enters the enclave in both machines, so both runs have entered it at their ends
         | inl enters_slot ↦
             let entered_is = entered_some enclave step_of_one.outcome.entered enters_slot in
             inl (record {
@@ -122,7 +127,7 @@ module _ (enclave hart : ℕ) (breaks watches : List ℕ) where
             let still_off = entry_law enclave hart hart before.state not_on_hart does_not_enter in
             let rest_alike = run-alike remaining after step_of_other.state (invariant_law hart before.state invariant)
             (invariant_law hart other other_invariant) alike_after.state still_off in
-            let alike_at_stop = λ (stop : Stop). inr (record { ran = refl; state = alike_after.state; not_on_hart = still_off }) in
+            let alike_at_stop = λ (stop : Stop). inr (record { same_summary = refl; equiv_ends = alike_after.state; not_on_hart = still_off }) in
             let alike = next_cases (RunAlike enclave hart) after (with_state after step_of_other.state) _ _ watch_hit (remaining == 0)
             (is_among (hart_pc hart step_of_one.state) breaks) alike_at_stop rest_alike in
             -- the outcomes of the step are equal, and the next instruction is at a breakpoint in both machines or in neither

@@ -7,14 +7,16 @@ use Rattle.rv_debug.proofs.both.run_both.Goals as goal
 -- clause `first`: the first bench ends in the state after the executed commands
 pub returns-clause-first : goal.returns-clause-first
 returns-clause-first c =
-    (subst (Folded c.args.slot c.args.a.now c.args.b.now c.args.commands.now) c.run_commands.ensures
-    (folded c.args.slot c.args.a.now c.args.b.now c.args.commands.now)).0
+    let (first_end_is, _) = subst (Folded c.args.slot c.args.a.now c.args.b.now c.args.commands.now) c.run_commands.ensures
+    (folded c.args.slot c.args.a.now c.args.b.now c.args.commands.now) in
+    first_end_is
 
 -- clause `second`: the second bench ends in the state after the executed commands
 pub returns-clause-second : goal.returns-clause-second
 returns-clause-second c =
-    (subst (Folded c.args.slot c.args.a.now c.args.b.now c.args.commands.now) c.run_commands.ensures
-    (folded c.args.slot c.args.a.now c.args.b.now c.args.commands.now)).1
+    let (_, second_end_is) = subst (Folded c.args.slot c.args.a.now c.args.b.now c.args.commands.now) c.run_commands.ensures
+    (folded c.args.slot c.args.a.now c.args.b.now c.args.commands.now) in
+    second_end_is
 
 -- clause `alike`: if the benches are equivalent and the executed commands avoid the hart of the enclave, then the executed commands are alike
 pub returns-clause-alike : goal.returns-clause-alike

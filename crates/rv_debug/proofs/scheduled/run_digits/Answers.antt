@@ -11,8 +11,9 @@ use Rattle.rv_debug.proofs.scheduled.run_digits.Goals as goal
 pub step_hart-outcome-requires : goal.step_hart-outcome-requires
 step_hart-outcome-requires g c =
     let count = harts_of (g.T.Harts.as_target c.loop-digit.target) in
-    let next = has_next count c.args.digits.now c.loop-digit.digit-index _ c.loop-digit-test.true refl c.loop-digit.invariant.harts_exist in
-    subst (λ (hart : ℕ). hart < count) (sym c.hart-hart.ensures.which) next.0
+    let (digit_is_hart, _) =
+    has_next count c.args.digits.now c.loop-digit.digit-index _ c.loop-digit-test.true refl c.loop-digit.invariant.harts_exist in
+    subst (λ (hart : ℕ). hart < count) (sym c.hart-hart.ensures.which) digit_is_hart
 
 -- After the step of the hart of a digit, the loop invariant holds for the digits after it. A step does not change the number of harts.
 pub loop-digit-preserved : goal.loop-digit-preserved
@@ -26,12 +27,13 @@ loop-digit-preserved g c =
     let after : AfterSchedule = after_schedule (target c.step_hart-outcome.new.self) c.add.new.self in
     let after_is = ap (with_scheduled_step hart before) c.step_hart-outcome.ensures ∙ ap (after_schedule after.state) (sym c.add.ensures.step) in
     let same_count = sym (ap (λ (last : Stepped Target). harts_of last.state) c.step_hart-outcome.ensures) ∙ step_harts hart before.state in
-    let next = has_next (harts_of before.state) digits index _ c.loop-digit-test.true refl so_far.harts_exist in
+    -- the harts of the digits after this one exist
+    let (_, later_harts_exist) = has_next (harts_of before.state) digits index _ c.loop-digit-test.true refl so_far.harts_exist in
     record {
       scheduled_steps =
           so_far.scheduled_steps
           ∙ scheduled_step_more digits index _ hart before after c.loop-digit-test.true refl c.hart-hart.ensures.which after_is;
-      harts_exist = ap (λ (count : ℕ). has_all count (harts_from (index + 1) digits)) same_count ∙ next.1;
+      harts_exist = ap (λ (count : ℕ). has_all count (harts_from (index + 1) digits)) same_count ∙ later_harts_exist;
       hart_0_steps = omega (arith, c.add.ensures.first_one, so_far.hart_0_steps);
       hart_1_steps = omega (arith, c.add.ensures.second_one, so_far.hart_1_steps);
     }

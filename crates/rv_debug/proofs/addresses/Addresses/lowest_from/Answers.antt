@@ -7,8 +7,8 @@ use Rattle.rv_debug.proofs.addresses.Addresses.lowest_from.Goals as goal
 -- if the address itself is a member, it is the lowest member of the `count` addresses from it on
 pub returns-in-Ok : goal.returns-in-Ok
 returns-in-Ok c =
-    let found = rw c.as_slice.ensures.value at c.in-Ok.ensures in
-    rw (← c.self.view_is) (find-address_itself _ _ _ _ c.self.invariant c.requires found.0 found.1)
+    let (place_in_bounds, address_at_place) = rw c.as_slice.ensures.value at c.in-Ok.ensures in
+    rw (← c.self.view_is) (find-address_itself _ _ _ _ c.self.invariant c.requires place_in_bounds address_at_place)
 
 -- if no member is at or above the address, no member is one of the `count` addresses
 pub returns-then-place-len : goal.returns-then-place-len

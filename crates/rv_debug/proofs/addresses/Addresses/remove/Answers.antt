@@ -5,14 +5,14 @@ use Rattle.rv_debug.proofs.addresses.Addresses.remove.Goals as goal
 -- the addresses are sorted after the removal, since the new list is the old one without the address
 pub invariant_of-self : goal.invariant_of-self
 invariant_of-self c =
-    let found = rw c.as_slice.ensures.value at c.in-Ok.ensures in
-    rw (c.remove.ensures.items, remove-is _ _ _ c.self.invariant found.0 found.1) (sorted-filter _ _ c.self.invariant)
+    let (place_in_bounds, address_at_place) = rw c.as_slice.ensures.value at c.in-Ok.ensures in
+    rw (c.remove.ensures.items, remove-is _ _ _ c.self.invariant place_in_bounds address_at_place) (sorted-filter _ _ c.self.invariant)
 
 -- if the search finds the address, the new list is the set without the address
 pub returns-in-Ok : goal.returns-in-Ok
 returns-in-Ok c =
-    let found = rw c.as_slice.ensures.value at c.in-Ok.ensures in
-    rw (c.remove.ensures.items, ← c.self.view_is) (remove-is _ _ _ c.self.invariant found.0 found.1)
+    let (place_in_bounds, address_at_place) = rw c.as_slice.ensures.value at c.in-Ok.ensures in
+    rw (c.remove.ensures.items, ← c.self.view_is) (remove-is _ _ _ c.self.invariant place_in_bounds address_at_place)
 
 -- if the search does not find the address, the unchanged list is the set without the address
 pub returns-in_default : goal.returns-in_default
