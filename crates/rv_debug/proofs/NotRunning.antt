@@ -1,6 +1,6 @@
 -- An enclave that runs on no hart: every command avoids its hart. After a command that does not enter the enclave, the enclave still runs on no hart.
 use Rattle.std.proofs.Common.{◌≡◌, ℕ, true, false, List, [], ◌∷◌, Option, Some, None, refl, sym, ◌∙◌, ap, subst, inl, inr}
-use Rattle.rv_enclaves.proofs.Scrambled.{slot_rests}
+use Rattle.rv_enclaves.proofs.Scrambled.{slot_is_live_and_rests}
 use Rattle.rv_monitor.proofs.Beside.{runs_among}
 use Rattle.rv_debug.specs.Prelude.{Bare, Command, Monitored, Poke, HartState, Target, changed, is_world_of, reg_set, runs_on, slot_at, timer_line_set}
 use Rattle.rv_debug.specs.Prelude.{write}
@@ -108,7 +108,7 @@ scrambled_on_no_hart enclave (Bare machine) invariant can_be_scrambled = tt
 scrambled_on_no_hart enclave (Monitored selected) invariant can_be_scrambled = λ hart. elim (cases_Bool (runs_on enclave hart selected.state)) [
   -- the table says that the enclave does not run, but it runs on the hart
   | inl on_hart ↦
-      let (_, not_running) = slot_rests (slot_at selected.state.shared.table enclave) can_be_scrambled in
+      let (_, not_running) = slot_is_live_and_rests (slot_at selected.state.shared.table enclave) can_be_scrambled in
       absurd (both_ways _ not_running (invariant.shared.running enclave ∙ runs_among enclave hart selected.state on_hart))
   | inr not_on_hart ↦ not_on_hart
 ]

@@ -424,6 +424,7 @@ module _ (memory : List ℕ) (table : Slots) (world : World) (mode : Mode) (acce
                 rw is_window
                 (any_window ∙ any_none (has (world_window table world)) start size
                 (λ address from_start before_end. no_window table world address host_runs))
+            -- entry 15 is not lower than itself
             | inr is_host_entry ↦ absurd (omega arith)
           ]
         ]
@@ -443,12 +444,14 @@ module _ (memory : List ℕ) (table : Slots) (world : World) (mode : Mode) (acce
       (grants_if_cfg (slot + 1) _ (cfg_of-slot slot in_range)
       ∙ region_permits_enclave world slot (slot_at table slot) access start runs_enclave first_in_range)
       (λ lower is_lower. elim (entry_cases lower (omega arith)) [
+        -- entry 0 covers only bytes of the monitor's range, which shares no byte with a region
         | inl is_monitor ↦
             rw is_monitor
             (any_monitor
             ∙ any_none (has monitor_block) start size
             (λ address from_start before_end. apart_bytes.regions_free slot address (each_in_region address from_start before_end)))
         | inr not_monitor ↦ elim not_monitor [
+          -- the entry of another slot covers only bytes of its region, which shares no byte with the region of `slot`
           | inl (other, other_in_bounds, is_other_entry) ↦
               let other_slot : slot ≢ other = omega (arith, is_other_entry) in
               rw is_other_entry
@@ -456,6 +459,7 @@ module _ (memory : List ℕ) (table : Slots) (world : World) (mode : Mode) (acce
               ∙ any_none (has (region table other)) start size
               (λ address from_start before_end.
               apart_bytes.regions_apart slot other address other_slot (each_in_region address from_start before_end)))
+          -- entries 14 and 15 are not lower
           | inr from_window ↦ absurd (elim from_window [ inl is_window ↦ omega arith | inr is_host_entry ↦ omega arith ])
         ]
       ])
@@ -472,16 +476,19 @@ module _ (memory : List ℕ) (table : Slots) (world : World) (mode : Mode) (acce
       (grants_if_cfg 14 _ cfg_of-window
       ∙ rw world_is_slot (window_permits_loads_and_stores (slot_at table slot) access start no_fetch first_in_range))
       (λ lower is_lower. elim (entry_cases lower (omega arith)) [
+        -- entry 0 covers only bytes of the monitor's range, which shares no byte with a window
         | inl is_monitor ↦
             rw is_monitor
             (any_monitor
             ∙ any_none (has monitor_block) start size
             (λ address from_start before_end. apart_bytes.windows_free slot address (each_in_window address from_start before_end)))
         | inr not_monitor ↦ elim not_monitor [
+          -- the entry of a slot covers only bytes of its region, which shares no byte with the window
           | inl (other, other_in_bounds, is_other_entry) ↦
               rw is_other_entry (any_slot other other_in_bounds ∙ any_none (has (region table other)) start size (λ address from_start before_end.
               false_from_ne_true _
               (λ region. both_ways _ (apart_bytes.windows_apart other slot address region) (each_in_window address from_start before_end))))
+          -- entries 14 and 15 are not lower
           | inr from_window ↦ absurd (elim from_window [ inl is_window ↦ omega arith | inr is_host_entry ↦ omega arith ])
         ]
       ])
@@ -497,8 +504,8 @@ module _ (memory : List ℕ) (table : Slots) (world : World) (mode : Mode) (acce
   ]
 
   -- the layout permits an access in S or U if and only if the accessed bytes are accessible to the world
-  pub reach_from : permits (verdict entries mode access bytes) ≡ is_accessible memory table world access bytes
-  reach_from = equal_if_equivalent _ _ accessible_if_permitted permitted_if_accessible
+  pub permitted_iff_accessible : permits (verdict entries mode access bytes) ≡ is_accessible memory table world access bytes
+  permitted_iff_accessible = equal_if_equivalent _ _ accessible_if_permitted permitted_if_accessible
 
   -- if the layout permits a world an access, then no accessed byte is in the region of another enclave
   pub permitted_apart : (slot : ℕ) → is_world_of slot world ≡ false → permits (verdict entries mode access bytes) ≡ true → (address : ℕ)
@@ -525,7 +532,8 @@ small_ram memory ram_size =
 -- proves that the layout permits exactly the accessible accesses
 pub reach_law : LayoutAccessLaw
 reach_law memory slots world mode access address width table_valid mode_below_m inside =
-    reach_from memory slots world mode access address (bytes_in width) (small_ram memory table_valid.ram) table_valid mode_below_m (some_bytes width)
+    permitted_iff_accessible memory slots world mode access address (bytes_in width)
+    (small_ram memory table_valid.ram) table_valid mode_below_m (some_bytes width)
     (inside-bounds memory address (bytes_in width) inside)
 
 -- proves that no permitted access of S or U has a byte in the region of another enclave

@@ -65,11 +65,12 @@ contexts_with enclave one_contexts other_contexts slot maybe_context equal_elsew
 pub seen_block : (block hidden_block : Block) → meets block hidden_block ≡ false → IsSeen (has hidden_block) block.base block.size
 seen_block block hidden_block apart address from_base before_end = elim (cases_Bool (has hidden_block address)) [
   | inr not_hidden ↦ not_hidden
-  | inl hidden ↦
+  -- a hidden byte of the block would be in both blocks, which do not meet
+  | inl is_hidden ↦
       let in_block : has block address ≡ true =
       and_from (nat_le block.base address) (nat_lt address (block.base + block.size)) (le-leb block.base address from_base)
       (lt-ltb address (block.base + block.size) before_end) in
-      absurd (both_ways _ apart (meets_at block hidden_block address in_block hidden))
+      absurd (both_ways _ apart (meets_at block hidden_block address in_block is_hidden))
 ]
 
 -- a read that reads no hidden byte returns the same bytes from both memories
@@ -77,7 +78,9 @@ read_alike : (hidden : ℕ → Bool) (one_memory other_memory : List ℕ) (addre
     → IsSeen hidden address count
     → read one_memory address count ≡ read other_memory address count
 read_alike hidden one_memory other_memory address count equal_outside not_hidden = elim (cases_Bool (is_inside one_memory address count)) [
+  -- the bytes are in RAM: both reads return them
   | inl inside ↦ same_read hidden one_memory other_memory address count equal_outside inside not_hidden
+  -- the bytes are not all in RAM: both reads return None
   | inr outside ↦
       let same_length = equal_outside.size in
       read-none one_memory address count outside ∙ sym (read-none other_memory address count (rw (← same_length) outside))
@@ -89,7 +92,7 @@ read_alike hidden one_memory other_memory address count equal_outside not_hidden
 -- contexts are equal except that of `enclave`.
 module _ (enclave : ℕ) (table : Slots) (one_memory other_memory : List ℕ) (one_contexts other_contexts : Contexts)
     (equal_outside : EqualOutside (is_private table enclave) one_memory other_memory)
-    (saved : SameContexts enclave one_contexts other_contexts)
+    (same_saved_contexts : SameContexts enclave one_contexts other_contexts)
     (live : is_live table enclave ≡ true) where
   -- the shared state with `one_memory` and `one_contexts`
   abbrev one : Shared
@@ -127,7 +130,7 @@ module _ (enclave : ℕ) (table : Slots) (one_memory other_memory : List ℕ) (o
 
   -- the two shared states are equivalent except `enclave`
   pub equiv_before : SharedEquivExcept enclave one other
-  equiv_before = equiv_with_slot table one_memory other_memory one_contexts other_contexts refl equal_outside saved
+  equiv_before = equiv_with_slot table one_memory other_memory one_contexts other_contexts refl equal_outside same_saved_contexts
 
   -- ---- create
 
@@ -145,33 +148,33 @@ module _ (enclave : ℕ) (table : Slots) (one_memory other_memory : List ℕ) (o
   recorded_alike new apart = let same_digest = measurement_alike new apart in rw same_digest refl
 
   -- a free slot is not `enclave`, because `enclave` is live
-  not_free : (slot : ℕ) → slot_at table slot ≡ None → enclave ≢ slot
-  not_free slot slot_is_free is_enclave =
+  enclave_is_not_free_slot : (slot : ℕ) → slot_at table slot ≡ None → enclave ≢ slot
+  enclave_is_not_free_slot slot slot_is_free is_enclave =
       let dead : is_live table enclave ≡ false = rw (is_enclave, slot_is_free) refl in
       both_ways _ dead live
 
   -- a new enclave in a free slot leaves the two shared states equivalent except `enclave`
-  put_alike : (slot : ℕ) (info : SlotInfo) → slot_at table slot ≡ None
+  with_enclave_alike : (slot : ℕ) (info : SlotInfo) → slot_at table slot ≡ None
       → SharedEquivExcept enclave (with_enclave one slot info) (with_enclave other slot info)
-  put_alike slot info slot_is_free =
+  with_enclave_alike slot info slot_is_free =
       equiv_with_slot (with_slot table slot (Some info)) one_memory other_memory (with_context one_contexts slot (Some (first_context info)))
       (with_context other_contexts slot (Some (first_context info)))
-      (at_other_slot table slot enclave (Some info) (not_free slot slot_is_free)) equal_outside
-      (contexts_with enclave one_contexts other_contexts slot (Some (first_context info)) saved)
+      (at_other_slot table slot enclave (Some info) (enclave_is_not_free_slot slot slot_is_free)) equal_outside
+      (contexts_with enclave one_contexts other_contexts slot (Some (first_context info)) same_saved_contexts)
 
   -- a create that the monitor does not refuse leaves two equivalent shared states equivalent except `enclave`
   pub created_alike : (new : CreateArgs) → MayCreate one new → SharedEquivExcept enclave (created one new) (created other new)
   unfolding created
   created_alike new no_refusal =
       let same_record = recorded_alike new ((free_from table new no_refusal.apart).others enclave).regions in
-      rw (← same_record) (put_alike (new_slot table) (recorded one_memory new) (free_slot_from table (new_slot table) no_refusal.free).free)
+      rw (← same_record) (with_enclave_alike (new_slot table) (recorded one_memory new) (free_slot_from table (new_slot table) no_refusal.free).free)
 
   -- ---- destroy
 
   -- the removal of `enclave` itself leaves the two shared states equal
-  gone_alike : (block : Block) → region table enclave ≡ block → is_inside one_memory block.base block.size ≡ true
+  equal_without_enclave : (block : Block) → region table enclave ≡ block → is_inside one_memory block.base block.size ≡ true
       → without one enclave block ≡ without other enclave block
-  gone_alike block region_is inside =
+  equal_without_enclave block region_is inside =
       let in_bounds = inside-bounds one_memory block.base block.size inside in
       let in_block : (address : ℕ) → is_private table enclave address ≡ true → (block.base ≤ address) × (address < block.base + block.size) =
       λ address is_private. let (not_below_base, below_end) =
@@ -184,22 +187,24 @@ module _ (enclave : ℕ) (table : Slots) (one_memory other_memory : List ℕ) (o
       same_number_lists _ _ zeroed_alike.size (λ offset in_bounds. zeroed_alike.bytes offset refl) in
       let same_contexts_after : with_context one_contexts enclave None ≡ with_context other_contexts enclave None =
       same_contexts enclave (with_context one_contexts enclave None) (with_context other_contexts enclave None)
-      (contexts_with enclave one_contexts other_contexts enclave None saved)
-      (same_at_set one_contexts other_contexts enclave None None saved.size) in
+      (contexts_with enclave one_contexts other_contexts enclave None same_saved_contexts)
+      (same_at_set one_contexts other_contexts enclave None None same_saved_contexts.size) in
       rw (same_memories, same_contexts_after) refl
 
   -- the removal of any enclave leaves the two shared states equivalent except `enclave`
   without_alike : (slot : ℕ) → is_inside one_memory (region table slot).base (region table slot).size ≡ true
       → SharedEquivExcept enclave (without one slot (region table slot)) (without other slot (region table slot))
   without_alike slot inside = elim (cases_eq slot enclave) [
-    | inl is_enclave ↦ rw is_enclave (equal_agree enclave _ _ (gone_alike (region table enclave) refl (rw is_enclave at inside)))
+    -- `enclave` itself is removed: the shared states are equal after that
+    | inl is_enclave ↦ rw is_enclave (equal_agree enclave _ _ (equal_without_enclave (region table enclave) refl (rw is_enclave at inside)))
+    -- another enclave is removed: `enclave` keeps its record, and the same block is zeroed in both memories
     | inr is_other ↦
         let block = region table slot in
         equiv_with_slot (with_slot table slot None) (zeroed one_memory block) (zeroed other_memory block) (with_context one_contexts slot None)
         (with_context other_contexts slot None)
         (at_other_slot table slot enclave None (λ equal. is_other (sym equal)))
         (write-alike (is_private table enclave) one_memory other_memory block.base (replicate block.size 0) equal_outside)
-        (contexts_with enclave one_contexts other_contexts slot None saved)
+        (contexts_with enclave one_contexts other_contexts slot None same_saved_contexts)
   ]
 
   -- the region of a valid record is inside memory
@@ -228,23 +233,24 @@ module _ (enclave : ℕ) (table : Slots) (one_memory other_memory : List ℕ) (o
   measured_alike slot address =
       let bytes = measurement_at table slot in
       equiv_with_slot table (with_bytes_at one_memory address bytes) (with_bytes_at other_memory address bytes) one_contexts other_contexts refl
-      (write-alike (is_private table enclave) one_memory other_memory address bytes equal_outside) saved
+      (write-alike (is_private table enclave) one_memory other_memory address bytes equal_outside) same_saved_contexts
 
   -- ---- a switch
 
   -- after a change of the state of `slot`, `enclave` is still live and has its old region
-  state_keeps : length table ≡ slot_count → (slot : ℕ) (state : EnclaveState)
+  same_region_and_live : length table ≡ slot_count → (slot : ℕ) (state : EnclaveState)
       → (region (with_state table slot state) enclave ≡ region table enclave) × (is_live (with_state table slot state) enclave ≡ true)
-  state_keeps table_length slot state = of_slot (slot_at table slot) refl
+  same_region_and_live table_length slot state = same_for_record (slot_at table slot) refl
     where
       -- after a change of the state in the record of `slot`, `enclave` is still live and has its old region
-      of_slot : (maybe_info : Option SlotInfo) → slot_at table slot ≡ maybe_info
+      same_for_record : (maybe_info : Option SlotInfo) → slot_at table slot ≡ maybe_info
           → (let after = option_case maybe_info table (λ info. with_slot table slot (Some (record info { state = state }))) in
           (region after enclave ≡ region table enclave) × (is_live after enclave ≡ true))
-      of_slot None slot_is = (refl, live)
-      of_slot (Some info) slot_is =
+      same_for_record None slot_is = (refl, live)
+      same_for_record (Some info) slot_is =
           let new = Some (record info { state = state }) in
           elim (cases_eq enclave slot) [
+            -- `enclave` is in `slot`: its record has a new state and the old region
             | inl is_slot ↦
                 let new_record_at_slot =
                 at_written_slot table slot new (omega (arith, table_length, live_in_range table slot info table_length slot_is)) in
@@ -252,6 +258,7 @@ module _ (enclave : ℕ) (table : Slots) (one_memory other_memory : List ℕ) (o
                   ap region_of new_record_at_slot ∙ sym (ap region_of slot_is),
                   ap (λ (maybe_info : Option SlotInfo). is_some maybe_info) new_record_at_slot,
                 )
+            -- `enclave` is in another slot: its record is unchanged
             | inr is_other ↦
                 let unchanged = at_other_slot table slot enclave new is_other in
                 (ap region_of unchanged, ap (λ (maybe_info : Option SlotInfo). is_some maybe_info) unchanged ∙ live)
@@ -263,7 +270,7 @@ module _ (enclave : ℕ) (table : Slots) (one_memory other_memory : List ℕ) (o
       SharedEquivExcept enclave (record one { table = after; contexts = with_context one_contexts slot maybe_context })
       (record other { table = after; contexts = with_context other_contexts slot maybe_context }))
   switched_alike table_length slot state maybe_context =
-      let (same_region, still_live) = state_keeps table_length slot state in
+      let (same_region, still_live) = same_region_and_live table_length slot state in
       equiv_with_region (with_state table slot state) one_memory other_memory (with_context one_contexts slot maybe_context)
       (with_context other_contexts slot maybe_context) same_region still_live equal_outside
-      (contexts_with enclave one_contexts other_contexts slot maybe_context saved)
+      (contexts_with enclave one_contexts other_contexts slot maybe_context same_saved_contexts)

@@ -19,9 +19,9 @@ use Rattle.rv_enclaves.proofs.Valid.{valid_by_size}
 -- ---- memory
 
 -- the complement of a block inside memory changes no byte outside the block
-inside_agrees : (memory : List ℕ) (block : Block) → is_inside memory block.base block.size ≡ true
+complement_agrees_outside : (memory : List ℕ) (block : Block) → is_inside memory block.base block.size ≡ true
     → EqualOutside (has block) memory (with_complements memory (block.base - ram_base) block.size)
-inside_agrees memory block inside =
+complement_agrees_outside memory block inside =
     let (from_ram_base, to_ram_end) = inside-bounds memory block.base block.size inside in
     let index = block.base - ram_base in
     let fits = inside-index memory block.base block.size inside in
@@ -45,11 +45,11 @@ inside_agrees memory block inside =
     }
 
 -- the complement of any block changes no byte outside the block
-block_agrees : (memory : List ℕ) (block : Block) → EqualOutside (has block) memory (complemented_block memory block)
-block_agrees memory block = elim (cases_Bool (is_inside memory block.base block.size)) [
+complemented_block_agrees : (memory : List ℕ) (block : Block) → EqualOutside (has block) memory (complemented_block memory block)
+complemented_block_agrees memory block = elim (cases_Bool (is_inside memory block.base block.size)) [
   | inl inside ↦
       let complement_is = complemented-is memory block.base block.size inside in
-      rw complement_is (inside_agrees memory block inside)
+      rw complement_is (complement_agrees_outside memory block inside)
   | inr outside ↦
       let reads_none = read-none memory block.base block.size outside in
       rw reads_none (record { size = refl; bytes = λ byte_index not_hidden. refl })
@@ -58,15 +58,15 @@ block_agrees memory block = elim (cases_Bool (is_inside memory block.base block.
 -- ---- contexts
 
 -- the complement of a context is a context, and the complement of None is None
-some_after : (maybe_context : Option Context) → is_some (option_map complemented_context maybe_context) ≡ is_some maybe_context
-some_after None = refl
-some_after (Some context) = refl
+complement_is_present : (maybe_context : Option Context) → is_some (option_map complemented_context maybe_context) ≡ is_some maybe_context
+complement_is_present None = refl
+complement_is_present (Some context) = refl
 
 -- a hart can continue with the complement of each context with which it can continue
-goes_on_after : (maybe_context : Option Context) → IfSome maybe_context (λ context. can_go_on context ≡ true)
+complement_can_continue : (maybe_context : Option Context) → IfSome maybe_context (λ context. can_go_on context ≡ true)
     → IfSome (option_map complemented_context maybe_context) (λ context. can_go_on context ≡ true)
-goes_on_after None can_continue = tt
-goes_on_after (Some context) can_continue = can_continue
+complement_can_continue None can_continue = tt
+complement_can_continue (Some context) can_continue = can_continue
 
 -- ---- the slot
 
@@ -77,10 +77,10 @@ record MayScramble (shared : Shared) (slot : ℕ) : Type 0 where
   pub in_range : slot < slot_count
 
 -- a slot with a saved context has a live enclave that does not run
-pub slot_rests : (maybe_info : Option SlotInfo) → is_held maybe_info ≡ true
+pub slot_is_live_and_rests : (maybe_info : Option SlotInfo) → is_held maybe_info ≡ true
     → (is_some maybe_info ≡ true) × (option_case maybe_info false (λ info. is_running info.state) ≡ false)
-slot_rests None has_context = cc
-slot_rests (Some info) has_context = (refl, not-true (is_running info.state) has_context)
+slot_is_live_and_rests None has_context = cc
+slot_is_live_and_rests (Some info) has_context = (refl, not-true (is_running info.state) has_context)
 
 -- a slot with a saved context is a slot of the table
 in_range : (shared : Shared) (slot : ℕ) (maybe_info : Option SlotInfo) → slot_at shared.table slot ≡ maybe_info
@@ -95,7 +95,7 @@ module _ (shared : Shared) (worlds : List World) (slot : ℕ) (shared_invariant 
   -- a slot that may be scrambled has a live enclave that does not run
   slot_may_scramble : MayScramble shared slot
   slot_may_scramble =
-      let (live, not_running) = slot_rests (slot_at shared.table slot) may_scramble in
+      let (live, not_running) = slot_is_live_and_rests (slot_at shared.table slot) may_scramble in
       record {
         live = live;
         not_running = not_running;
@@ -121,14 +121,16 @@ module _ (shared : Shared) (worlds : List World) (slot : ℕ) (shared_invariant 
   unfolding scrambled_shared
   scrambled_sound = record {
     valid = valid_by_size shared.memory (complemented_block shared.memory (region shared.table slot)) shared.table
-        (block_agrees shared.memory (region shared.table slot)).size shared_invariant.valid;
+        (complemented_block_agrees shared.memory (region shared.table slot)).size shared_invariant.valid;
     contexts = record {
       count = length-set shared.contexts slot (option_map complemented_context old_context) ∙ shared_invariant.contexts.count;
       kept = λ other. elim (cases_eq other slot) [
+        -- the scrambled slot: the complement of its context is present if and only if the context is
         | inl is_slot ↦
             rw is_slot
-            (ap (λ (maybe_context : Option Context). is_some maybe_context) new_context_of_slot ∙ some_after old_context
+            (ap (λ (maybe_context : Option Context). is_some maybe_context) new_context_of_slot ∙ complement_is_present old_context
             ∙ shared_invariant.contexts.kept slot)
+        -- another slot: its context is unchanged
         | inr is_other ↦
             ap (λ (maybe_context : Option Context). is_some maybe_context) (at_other_slot shared.contexts slot other _ is_other)
             ∙ shared_invariant.contexts.kept other
@@ -136,7 +138,8 @@ module _ (shared : Shared) (worlds : List World) (slot : ℕ) (shared_invariant 
       held = λ other.
           let CanContinue : Option Context → Type 0 = λ maybe_context. IfSome maybe_context (λ context. can_go_on context ≡ true) in
           elim (cases_eq other slot) [
-            | inl is_slot ↦ rw is_slot (subst CanContinue (sym new_context_of_slot) (goes_on_after old_context (shared_invariant.contexts.held slot)))
+            | inl is_slot ↦
+                rw is_slot (subst CanContinue (sym new_context_of_slot) (complement_can_continue old_context (shared_invariant.contexts.held slot)))
             | inr is_other ↦ subst CanContinue (sym (at_other_slot shared.contexts slot other _ is_other)) (shared_invariant.contexts.held other)
           ];
     };
@@ -149,7 +152,7 @@ module _ (shared : Shared) (worlds : List World) (slot : ℕ) (shared_invariant 
   unfolding scrambled_shared
   scrambled_agrees = record {
     table = refl;
-    memory = block_agrees shared.memory (region shared.table slot);
+    memory = complemented_block_agrees shared.memory (region shared.table slot);
     contexts = record {
       size = sym (length-set shared.contexts slot (option_map complemented_context old_context));
       others = λ other is_other. sym (at_other_slot shared.contexts slot other _ is_other);
@@ -161,7 +164,7 @@ module _ (shared : Shared) (worlds : List World) (slot : ℕ) (shared_invariant 
 pub scrambled_law : ScrambledLaw
 scrambled_law shared worlds slot shared_invariant may_scramble = record {
   not_running =
-      let (is_live, not_running) = slot_rests (slot_at shared.table slot) may_scramble in
+      let (is_live, not_running) = slot_is_live_and_rests (slot_at shared.table slot) may_scramble in
       not_running;
   sound = scrambled_sound shared worlds slot shared_invariant may_scramble;
   equivalent = scrambled_agrees shared worlds slot shared_invariant may_scramble;

@@ -182,12 +182,12 @@ new_fits shared new slot is_valid is_window_valid entry_valid free = record {
     entry = entry_inside new entry_valid;
     measured = length_measurement shared.memory new;
   };
-  regions = λ other is_other. (free.others other).regions;
-  windows = λ other is_other. (free.others other).window;
-  window = λ other is_other. (free.others other).own;
-  own = free.own;
-  region_free = free.region;
-  window_free = free.window;
+  regions_apart = λ other is_other. (free.others other).regions;
+  region_outside_windows = λ other is_other. (free.others other).window;
+  window_outside_regions = λ other is_other. (free.others other).new_window_outside_region;
+  own_blocks_apart = free.own_blocks_apart;
+  region_free = free.region_free;
+  window_free = free.window_free;
 }
 
 -- a hart can continue with the first context of an enclave

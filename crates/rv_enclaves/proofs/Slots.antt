@@ -61,22 +61,26 @@ pub record AreApart (new : CreateArgs) (maybe_info : Option SlotInfo) : Type 0 w
   -- the new region and the window of the enclave share no byte
   pub window : meets new.region (window_of maybe_info) ≡ false
   -- the new window and the region of the enclave share no byte
-  pub own : meets new.window (region_of maybe_info) ≡ false
+  pub new_window_outside_region : meets new.window (region_of maybe_info) ≡ false
 
 -- a create that does not collide with a slot is apart from the blocks of this slot
 pub apart_from : (new : CreateArgs) (maybe_info : Option SlotInfo) → collides new maybe_info ≡ false → AreApart new maybe_info
-apart_from new None no_collision = record { regions = meets_nothing new.region; window = meets_nothing new.region; own = meets_nothing new.window }
+apart_from new None no_collision = record {
+  regions = meets_nothing new.region;
+  window = meets_nothing new.region;
+  new_window_outside_region = meets_nothing new.window;
+}
 apart_from new (Some info) no_collision =
     let (regions_apart, others_apart) = or_parts (meets new.region info.region) _ no_collision in
-    let (window_apart, own_apart) = or_parts (meets new.region info.window) (meets new.window info.region) others_apart in
-    record { regions = regions_apart; window = window_apart; own = own_apart }
+    let (outside_window, window_outside) = or_parts (meets new.region info.window) (meets new.window info.region) others_apart in
+    record { regions = regions_apart; window = outside_window; new_window_outside_region = window_outside }
 
 -- The blocks of a create are free. The new region and the new window share no byte with the monitor's range or with each other. They share no byte
 -- with the blocks of an enclave, except that windows may share bytes.
 pub record IsFree (table : Slots) (new : CreateArgs) : Type 0 where
-  pub region : meets monitor_block new.region ≡ false
-  pub window : meets monitor_block new.window ≡ false
-  pub own : meets new.region new.window ≡ false
+  pub region_free : meets monitor_block new.region ≡ false
+  pub window_free : meets monitor_block new.window ≡ false
+  pub own_blocks_apart : meets new.region new.window ≡ false
   pub others : (slot : ℕ) → AreApart new (slot_at table slot)
 
 -- a create that passes the check `overlaps` has free blocks
@@ -87,8 +91,8 @@ free_from table new no_overlap =
     let (window_free, rest_apart) = or_parts (meets monitor_block new.window) _ rest_free in
     let (own_apart, no_collision) = or_parts (meets new.region new.window) (list_any (collides new) table) rest_apart in
     record {
-      region = region_free;
-      window = window_free;
-      own = own_apart;
+      region_free = region_free;
+      window_free = window_free;
+      own_blocks_apart = own_apart;
       others = λ slot. apart_from new (slot_at table slot) (none_at (collides new) table slot refl no_collision);
     }

@@ -12,14 +12,16 @@ use Rattle.rv_enclaves.specs.SlotNumbers.{slot_count}
 pub record FitsInSlot (memory : List ℕ) (table : Slots) (slot : ℕ) (maybe_info : Option SlotInfo) : Type 0 where
   pub well_formed : IfSome maybe_info (IsValidSlot memory)
   -- its region shares no byte with the region of another slot
-  pub regions : (other : ℕ) → other ≢ slot → meets (region_of maybe_info) (region table other) ≡ false
+  pub regions_apart : (other : ℕ) → other ≢ slot → meets (region_of maybe_info) (region table other) ≡ false
   -- its region shares no byte with the window of another slot
-  pub windows : (other : ℕ) → other ≢ slot → meets (region_of maybe_info) (window table other) ≡ false
+  pub region_outside_windows : (other : ℕ) → other ≢ slot → meets (region_of maybe_info) (window table other) ≡ false
   -- its window shares no byte with the region of another slot
-  pub window : (other : ℕ) → other ≢ slot → meets (window_of maybe_info) (region table other) ≡ false
+  pub window_outside_regions : (other : ℕ) → other ≢ slot → meets (window_of maybe_info) (region table other) ≡ false
   -- its region and its window share no byte
-  pub own : meets (region_of maybe_info) (window_of maybe_info) ≡ false
+  pub own_blocks_apart : meets (region_of maybe_info) (window_of maybe_info) ≡ false
+  -- its region shares no byte with the monitor's range
   pub region_free : meets monitor_block (region_of maybe_info) ≡ false
+  -- its window shares no byte with the monitor's range
   pub window_free : meets monitor_block (window_of maybe_info) ≡ false
 
 -- `slot` of a valid table gets a new record, or none, which fits
@@ -69,19 +71,23 @@ module _ (memory : List ℕ) (table : Slots) (slot : ℕ) (maybe_info : Option S
   regions_after left right distinct = elim (cases_eq left slot) [
     -- the left region is the new region
     | inl left_is_slot ↦ elim (cases_eq right slot) [
+      -- both are the region of `slot`, but the two slots are distinct
       | inl right_is_slot ↦ absurd (distinct (left_is_slot ∙ sym right_is_slot))
+      -- the right region is unchanged, and the new region fits: it does not meet the regions of other slots
       | inr right_is_other ↦
           rw left_is_slot
           (ap (λ block. meets block (region after right)) new_region_at_slot
-          ∙ ap (meets (region_of maybe_info)) (other_region_unchanged right right_is_other) ∙ fits.regions right right_is_other)
+          ∙ ap (meets (region_of maybe_info)) (other_region_unchanged right right_is_other) ∙ fits.regions_apart right right_is_other)
     ]
     -- the left region is unchanged
     | inr left_is_other ↦ elim (cases_eq right slot) [
+      -- the right region is the new region, which does not meet the regions of other slots
       | inl right_is_slot ↦
           rw right_is_slot
           (ap (λ block. meets block (region after slot)) (other_region_unchanged left left_is_other)
           ∙ ap (meets (region table left)) new_region_at_slot
-          ∙ meets_symmetric (region table left) (region_of maybe_info) ∙ fits.regions left left_is_other)
+          ∙ meets_symmetric (region table left) (region_of maybe_info) ∙ fits.regions_apart left left_is_other)
+      -- both regions are unchanged, and do not meet in the old table
       | inr right_is_other ↦
           ap (λ block. meets block (region after right)) (other_region_unchanged left left_is_other)
           ∙ ap (meets (region table left)) (other_region_unchanged right right_is_other)
@@ -94,21 +100,26 @@ module _ (memory : List ℕ) (table : Slots) (slot : ℕ) (maybe_info : Option S
   windows_after left right = elim (cases_eq left slot) [
     -- the region is the new region
     | inl left_is_slot ↦ elim (cases_eq right slot) [
+      -- the window is the new window: the new region and the new window do not meet
       | inl right_is_slot ↦
           rw (left_is_slot, right_is_slot)
-          (ap (λ block. meets block (window after slot)) new_region_at_slot ∙ ap (meets (region_of maybe_info)) new_window_at_slot ∙ fits.own)
+          (ap (λ block. meets block (window after slot)) new_region_at_slot ∙ ap (meets (region_of maybe_info)) new_window_at_slot
+          ∙ fits.own_blocks_apart)
+      -- the window is unchanged, and the new region does not meet the windows of other slots
       | inr right_is_other ↦
           rw left_is_slot
           (ap (λ block. meets block (window after right)) new_region_at_slot
-          ∙ ap (meets (region_of maybe_info)) (other_window_unchanged right right_is_other) ∙ fits.windows right right_is_other)
+          ∙ ap (meets (region_of maybe_info)) (other_window_unchanged right right_is_other) ∙ fits.region_outside_windows right right_is_other)
     ]
     -- the region is unchanged
     | inr left_is_other ↦ elim (cases_eq right slot) [
+      -- the window is the new window, which does not meet the regions of other slots
       | inl right_is_slot ↦
           rw right_is_slot
           (ap (λ block. meets block (window after slot)) (other_region_unchanged left left_is_other)
           ∙ ap (meets (region table left)) new_window_at_slot
-          ∙ meets_symmetric (region table left) (window_of maybe_info) ∙ fits.window left left_is_other)
+          ∙ meets_symmetric (region table left) (window_of maybe_info) ∙ fits.window_outside_regions left left_is_other)
+      -- the region and the window are unchanged, and do not meet in the old table
       | inr right_is_other ↦
           ap (λ block. meets block (window after right)) (other_region_unchanged left left_is_other)
           ∙ ap (meets (region table left)) (other_window_unchanged right right_is_other)
@@ -117,8 +128,8 @@ module _ (memory : List ℕ) (table : Slots) (slot : ℕ) (maybe_info : Option S
   ]
 
   -- no region of the new table meets the monitor's range
-  free_after : (other : ℕ) → meets monitor_block (region after other) ≡ false
-  free_after other = elim (cases_eq other slot) [
+  region_free_after : (other : ℕ) → meets monitor_block (region after other) ≡ false
+  region_free_after other = elim (cases_eq other slot) [
     | inl is_slot ↦ rw is_slot (ap (meets monitor_block) new_region_at_slot ∙ fits.region_free)
     | inr is_other ↦ ap (meets monitor_block) (other_region_unchanged other is_other) ∙ table_valid.regions_free other
   ]
@@ -138,7 +149,7 @@ module _ (memory : List ℕ) (table : Slots) (slot : ℕ) (maybe_info : Option S
     well_formed = well_formed_after;
     regions_apart = regions_after;
     windows_apart = windows_after;
-    regions_free = free_after;
+    regions_free = region_free_after;
     windows_free = window_free_after;
   }
 
@@ -146,10 +157,10 @@ module _ (memory : List ℕ) (table : Slots) (slot : ℕ) (maybe_info : Option S
 pub nothing_fits : (memory : List ℕ) (table : Slots) (slot : ℕ) → FitsInSlot memory table slot None
 nothing_fits memory table slot = record {
   well_formed = tt;
-  regions = λ other is_other. nothing_meets (region table other);
-  windows = λ other is_other. nothing_meets (window table other);
-  window = λ other is_other. nothing_meets (region table other);
-  own = refl;
+  regions_apart = λ other is_other. nothing_meets (region table other);
+  region_outside_windows = λ other is_other. nothing_meets (window table other);
+  window_outside_regions = λ other is_other. nothing_meets (region table other);
+  own_blocks_apart = refl;
   region_free = meets_nothing monitor_block;
   window_free = meets_nothing monitor_block;
 }
@@ -171,14 +182,15 @@ own_fits memory table slot info state table_valid slot_is =
         entry = slot_valid.entry;
         measured = slot_valid.measured;
       };
-      regions =
+      regions_apart =
           λ other is_other. ap (λ block. meets block (region table other)) (sym region_is)
           ∙ table_valid.regions_apart slot other (λ equal. is_other (sym equal));
-      windows = λ other is_other. ap (λ block. meets block (window table other)) (sym region_is) ∙ table_valid.windows_apart slot other;
-      window =
+      region_outside_windows =
+          λ other is_other. ap (λ block. meets block (window table other)) (sym region_is) ∙ table_valid.windows_apart slot other;
+      window_outside_regions =
           λ other is_other. ap (λ block. meets block (region table other)) (sym window_is) ∙ meets_symmetric (window table slot) (region table other)
           ∙ table_valid.windows_apart other slot;
-      own = ap (λ block. meets block info.window) (sym region_is) ∙ ap (meets (region table slot)) (sym window_is)
+      own_blocks_apart = ap (λ block. meets block info.window) (sym region_is) ∙ ap (meets (region table slot)) (sym window_is)
           ∙ table_valid.windows_apart slot slot;
       region_free = ap (meets monitor_block) (sym region_is) ∙ table_valid.regions_free slot;
       window_free = ap (meets monitor_block) (sym window_is) ∙ table_valid.windows_free slot;
