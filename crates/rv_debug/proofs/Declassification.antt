@@ -62,7 +62,7 @@ module _ (enclave hart : ℕ) (one other : MonitoredMachine) (invariant : Invari
       subst (λ (target : Target). TargetsAreRelated enclave target (done (as_target other) (Steps other_harts selected)))
       (sym (schedule_is_sched harts (record { hart = hart; state = one }) _ selected))
       (subst (TargetsAreRelated enclave (selected_at selected (sched harts one).state))
-      (sym (schedule_is_sched other_harts (record { hart = hart; state = other }) _ selected)) (record { hart = refl; state = moved.state }))
+      (sym (schedule_is_sched other_harts (record { hart = hart; state = other }) _ selected)) (record { hart = refl; state = moved.related_after }))
 
   -- the targets are related after the same write of a register
   related_after_setreg : (number value : ℕ) → TargetsAreRelated enclave (done (as_target one) (effect (as_bench one) (SetReg number value)))
@@ -329,9 +329,9 @@ module _ (enclave : ℕ) (machine : Machine) (breaks watches : List ℕ) where
   bench = bench_of (Bare machine) breaks watches
 
   -- a command that two equal bare benches execute is observed alike
-  bare_itself : (command : Command) → ObservedAlike enclave bench bench command command
+  bare_alike_itself : (command : Command) → ObservedAlike enclave bench bench command command
   unfolding execute
-  bare_itself command = record {
+  bare_alike_itself command = record {
     observed = refl;
     state = record {
       target = bare_target (λ (target : Target). TargetsAreRelated enclave target target) (λ machine. refl) _
@@ -342,23 +342,24 @@ module _ (enclave : ℕ) (machine : Machine) (breaks watches : List ℕ) where
   }
 
   -- a bare machine has no region, so no command pokes into it
-  bare_pokes : (command : Command) → PokesInto enclave bench command → ⊥
-  bare_pokes (Poke address byte) pokes_secret =
+  bare_has_no_region : (command : Command) → PokesInto enclave bench command → ⊥
+  bare_has_no_region (Poke address byte) pokes_secret =
       let contradiction = live_if_in_region None address pokes_secret in
       cc
-  bare_pokes _ pokes_secret = pokes_secret
+  bare_has_no_region _ pokes_secret = pokes_secret
 
   -- a bare machine has no enclave, so no command sets its registers
-  bare_sets : (command : Command) → SetsOwnRegister enclave bench command → ⊥
-  bare_sets (SetReg number value) sets_secret = cc
-  bare_sets _ sets_secret = sets_secret
+  bare_runs_no_enclave : (command : Command) → SetsOwnRegister enclave bench command → ⊥
+  bare_runs_no_enclave (SetReg number value) sets_secret = cc
+  bare_runs_no_enclave _ sets_secret = sets_secret
 
   -- two commands that are alike on the same bare machine are observed alike
   bare_alike : (command other_command : Command) → SecretsOrSame enclave bench bench command other_command
       → ObservedAlike enclave bench bench command other_command
-  bare_alike command other_command (inl same_command) = subst (ObservedAlike enclave bench bench command) same_command.same (bare_itself command)
-  bare_alike command other_command (inr (inl (pokes_secret, other_pokes_secret))) = absurd (bare_pokes command pokes_secret)
-  bare_alike command other_command (inr (inr (sets_secret, other_sets_secret))) = absurd (bare_sets command sets_secret)
+  bare_alike command other_command (inl same_command) =
+      subst (ObservedAlike enclave bench bench command) same_command.same (bare_alike_itself command)
+  bare_alike command other_command (inr (inl (pokes_secret, other_pokes_secret))) = absurd (bare_has_no_region command pokes_secret)
+  bare_alike command other_command (inr (inr (sets_secret, other_sets_secret))) = absurd (bare_runs_no_enclave command sets_secret)
 
 -- Two commands that are alike are observed alike in two benches with related targets and equal breakpoints and watchpoints. In the monitored case,
 -- the second target is rewritten to the selected hart of the first.
@@ -430,26 +431,26 @@ list_declassification enclave bench other_bench (command ∷ commands) (other_co
 -- ---- where the relation begins
 
 -- each target is related to itself
-targets_itself : (enclave : ℕ) (target : Target) → TargetsAreRelated enclave target target
-targets_itself enclave (Bare machine) = refl
-targets_itself enclave (Monitored selected) = record { hart = refl; state = related_itself enclave selected.state }
+target_related_to_itself : (enclave : ℕ) (target : Target) → TargetsAreRelated enclave target target
+target_related_to_itself enclave (Bare machine) = refl
+target_related_to_itself enclave (Monitored selected) = record { hart = refl; state = related_itself enclave selected.state }
 
 -- equivalent targets are related, if the enclave runs on no hart
-targets_begin : (enclave : ℕ) (one other : Target) → TargetsEquivExcept enclave one other → RunsOnNoHart enclave one
+equiv_targets_related : (enclave : ℕ) (one other : Target) → TargetsEquivExcept enclave one other → RunsOnNoHart enclave one
     → TargetsAreRelated enclave one other
-targets_begin enclave (Bare one) (Bare other) equiv on_no_hart = equiv
-targets_begin enclave (Monitored one) (Monitored other) equiv on_no_hart =
+equiv_targets_related enclave (Bare one) (Bare other) equiv on_no_hart = equiv
+equiv_targets_related enclave (Monitored one) (Monitored other) equiv on_no_hart =
     let guests = machine_relation_law.guests enclave one.state other.state equiv.state in
     record { hart = equiv.hart; state = machine_relation_law.begins enclave one.state other.state guests on_no_hart }
-targets_begin enclave _ _ equiv on_no_hart = absurd equiv
+equiv_targets_related enclave _ _ equiv on_no_hart = absurd equiv
 
 -- Proves that each bench is related to itself, and that equivalent benches are related if the enclave runs on no hart.
 pub relation_law : BenchRelationLaw
 relation_law = record {
-  itself = λ enclave bench. record { target = targets_itself enclave bench.target; breaks = refl; watches = refl };
+  itself = λ enclave bench. record { target = target_related_to_itself enclave bench.target; breaks = refl; watches = refl };
   begins = λ enclave bench other_bench equiv on_no_hart.
       record {
-        target = targets_begin enclave bench.target other_bench.target equiv.target on_no_hart;
+        target = equiv_targets_related enclave bench.target other_bench.target equiv.target on_no_hart;
         breaks = equiv.breaks;
         watches = equiv.watches;
       };

@@ -42,12 +42,12 @@ record IsSound (machine : MonitoredMachine) : Type 0 where
 write_cases : (P : MonitoredMachine → Type 0) (machine : MonitoredMachine) (address byte : ℕ) → P machine
     → ((memory : List ℕ) → write machine.shared.memory address (byte ∷ []) ≡ Some memory → P (with_memory machine memory))
     → P (after_action (SetsByte address byte) machine)
-write_cases P machine address byte unchanged written = result_cases (write machine.shared.memory address (byte ∷ [])) refl where
+write_cases P machine address byte holds_unchanged holds_after_write = result_cases (write machine.shared.memory address (byte ∷ [])) refl where
   -- the property holds whether the write succeeds with a new memory, or fails
   result_cases : (result : Option (List ℕ)) → write machine.shared.memory address (byte ∷ []) ≡ result
       → P (option_case result machine (with_memory machine))
-  result_cases None write_is = unchanged
-  result_cases (Some memory) write_is = written memory write_is
+  result_cases None write_is = holds_unchanged
+  result_cases (Some memory) write_is = holds_after_write memory write_is
 
 -- an action preserves the invariant and the legality of a machine
 action_sound : (action : Action) (machine : MonitoredMachine) → IsSound machine → IsSound (after_action action machine)
@@ -87,16 +87,16 @@ actions_sound (action ∷ actions) machine sound = actions_sound actions (after_
 -- ---- what the debugger's writes leave
 
 -- the enclave in `slot` continues with the same context, and its table, the size of the memory and the bytes of its region are unchanged
-record Stays (slot : ℕ) (context : Context) (before after : MonitoredMachine) : Type 0 where
+record EnclaveStays (slot : ℕ) (context : Context) (before after : MonitoredMachine) : Type 0 where
   continues : ContinuesWith slot context after
-  table : after.shared.table ≡ before.shared.table
-  size : length after.shared.memory ≡ length before.shared.memory
-  bytes : (index : ℕ) → not (has (region before.shared.table slot) (ram_base + index)) ≡ false
+  same_table : after.shared.table ≡ before.shared.table
+  same_size : length after.shared.memory ≡ length before.shared.memory
+  same_bytes : (index : ℕ) → not (has (region before.shared.table slot) (ram_base + index)) ≡ false
       → slice_index after.shared.memory index ≡ slice_index before.shared.memory index
 
 -- a write of a register of a hart that does not run the enclave leaves the enclave as it is
 register_stays : (slot hart number value : ℕ) (context : Context) (machine : MonitoredMachine) → ContinuesWith slot context machine
-    → runs_on slot hart machine ≡ false → Stays slot context machine (with_reg hart machine number value)
+    → runs_on slot hart machine ≡ false → EnclaveStays slot context machine (with_reg hart machine number value)
 register_stays slot hart number value context machine continues not_on_hart =
     let same_world : (any_hart : ℕ) → runs_on slot any_hart (with_reg hart machine number value) ≡ runs_on slot any_hart machine = λ any_hart.
     change_preserves (λ (hart_state : HartState). is_world_of slot hart_state.world) (reg_set number value)
@@ -116,26 +116,26 @@ register_stays slot hart number value context machine continues not_on_hart =
         ];
         resting = continues.resting;
       };
-      table = refl;
-      size = refl;
-      bytes = λ index in_region. refl;
+      same_table = refl;
+      same_size = refl;
+      same_bytes = λ index in_region. refl;
     }
 
 -- a write of a byte outside the region leaves the enclave as it is
 byte_stays : (slot address byte : ℕ) (context : Context) (machine : MonitoredMachine) → ContinuesWith slot context machine
-    → has (region machine.shared.table slot) address ≡ false → Stays slot context machine (after_action (SetsByte address byte) machine)
+    → has (region machine.shared.table slot) address ≡ false → EnclaveStays slot context machine (after_action (SetsByte address byte) machine)
 byte_stays slot address byte context machine continues outside_region =
-    write_cases (Stays slot context machine) machine address byte
-    (record { continues = continues; table = refl; size = refl; bytes = λ byte_index in_region. refl }) (λ memory written.
+    write_cases (EnclaveStays slot context machine) machine address byte
+    (record { continues = continues; same_table = refl; same_size = refl; same_bytes = λ byte_index in_region. refl }) (λ memory written.
     let old = machine.shared.memory in
     let (from_ram_base, before_ram_end, written_memory_is) = write-is old address (byte ∷ []) memory written in
     let index = address - ram_base in
     let within_memory : index + 1 ≤ length old = omega (arith, from_ram_base, before_ram_end) in
     record {
       continues = record { running = continues.running; resting = continues.resting };
-      table = refl;
-      size = length-write old address (byte ∷ []) memory written;
-      bytes = λ byte_index in_region. rw written_memory_is (elim (cases_lt byte_index index) [
+      same_table = refl;
+      same_size = length-write old address (byte ∷ []) memory written;
+      same_bytes = λ byte_index in_region. rw written_memory_is (elim (cases_lt byte_index index) [
         -- a byte below the written byte is unchanged
         | inl below_byte ↦ index-below old index (byte ∷ []) byte_index within_memory below_byte
         | inr not_below_byte ↦ elim (cases_lt byte_index (index + 1)) [
@@ -161,18 +161,18 @@ identity_has_region (Some info) = refl
 -- the slot `enclave` of the machine `one` and the slot `other_enclave` of `other` have enclaves that are at one point of their lives
 module _ (enclave other_enclave : ℕ) (one other : MonitoredMachine) (point : AreAtOnePoint enclave other_enclave one other) where
   -- if the enclave stays as it is in the first machine, both enclaves are at one point again
-  first_unchanged : (after : MonitoredMachine) → Stays enclave point.context one after → AreAtOnePoint enclave other_enclave after other
+  first_unchanged : (after : MonitoredMachine) → EnclaveStays enclave point.context one after → AreAtOnePoint enclave other_enclave after other
   first_unchanged after stays = record {
     context = point.context;
     first = stays.continues;
     second = point.second;
-    live = ap (λ (table : Slots). is_live table enclave) stays.table ∙ point.live;
-    identity = ap (λ (table : Slots). identity_at table enclave) stays.table ∙ point.identity;
+    live = ap (λ (table : Slots). is_live table enclave) stays.same_table ∙ point.live;
+    identity = ap (λ (table : Slots). identity_at table enclave) stays.same_table ∙ point.identity;
     memory = record {
-      size = stays.size ∙ point.memory.size;
+      size = stays.same_size ∙ point.memory.size;
       bytes = λ index not_hidden.
-          let in_region = ap (λ (table : Slots). not (has (region table enclave) (ram_base + index))) (sym stays.table) ∙ not_hidden in
-          stays.bytes index in_region ∙ point.memory.bytes index in_region;
+          let in_region = ap (λ (table : Slots). not (has (region table enclave) (ram_base + index))) (sym stays.same_table) ∙ not_hidden in
+          stays.same_bytes index in_region ∙ point.memory.bytes index in_region;
     };
   }
 
@@ -183,18 +183,18 @@ module _ (enclave other_enclave : ℕ) (one other : MonitoredMachine) (point : A
       ∙ identity_has_region (slot_at other.shared.table other_enclave)
 
   -- if the enclave stays as it is in the second machine, both enclaves are at one point again
-  second_unchanged : (after : MonitoredMachine) → Stays other_enclave point.context other after → AreAtOnePoint enclave other_enclave one after
+  second_unchanged : (after : MonitoredMachine) → EnclaveStays other_enclave point.context other after → AreAtOnePoint enclave other_enclave one after
   second_unchanged after stays = record {
     context = point.context;
     first = point.first;
     second = stays.continues;
     live = point.live;
-    identity = point.identity ∙ ap (λ (table : Slots). identity_at table other_enclave) (sym stays.table);
+    identity = point.identity ∙ ap (λ (table : Slots). identity_at table other_enclave) (sym stays.same_table);
     memory = record {
-      size = point.memory.size ∙ sym stays.size;
+      size = point.memory.size ∙ sym stays.same_size;
       bytes = λ index not_hidden.
           point.memory.bytes index not_hidden
-          ∙ sym (stays.bytes index (ap (λ (block : Block). not (has block (ram_base + index))) (sym same_region) ∙ not_hidden));
+          ∙ sym (stays.same_bytes index (ap (λ (block : Block). not (has block (ram_base + index))) (sym same_region) ∙ not_hidden));
     };
   }
 
@@ -230,25 +230,25 @@ record MovedAlike (enclave other_enclave : ℕ) (moves : List BenchMove) (one ot
   point : AreAtOnePoint enclave other_enclave (after_actions (first_actions moves) one) (after_actions (second_actions moves) other)
 
 -- Moves leave both enclaves at one point, with the same steps. The proof is by induction over the list of moves.
-moved : (enclave other_enclave : ℕ) (moves : List BenchMove) (one other : MonitoredMachine) → IsSound one → IsSound other
+moves_keep_point : (enclave other_enclave : ℕ) (moves : List BenchMove) (one other : MonitoredMachine) → IsSound one → IsSound other
     → AreAtOnePoint enclave other_enclave one other
     → AreBenchMoves enclave other_enclave moves one other → MovedAlike enclave other_enclave moves one other
-moved enclave other_enclave [] one other one_sound other_sound point permitted = record { steps = tt; point = point }
-moved enclave other_enclave (InFirst action ∷ moves) one other one_sound other_sound point (permitted, rest_permitted) =
-    let moved_rest = moved enclave other_enclave moves (after_action action one) other (action_sound action one one_sound) other_sound
+moves_keep_point enclave other_enclave [] one other one_sound other_sound point permitted = record { steps = tt; point = point }
+moves_keep_point enclave other_enclave (InFirst action ∷ moves) one other one_sound other_sound point (permitted, rest_permitted) =
+    let rest_alike = moves_keep_point enclave other_enclave moves (after_action action one) other (action_sound action one one_sound) other_sound
     (foreign_in_first enclave other_enclave one other point one_sound other_sound action permitted) rest_permitted in
-    record { steps = moved_rest.steps; point = moved_rest.point }
-moved enclave other_enclave (InSecond action ∷ moves) one other one_sound other_sound point (permitted, rest_permitted) =
-    let moved_rest = moved enclave other_enclave moves one (after_action action other) one_sound (action_sound action other other_sound)
+    record { steps = rest_alike.steps; point = rest_alike.point }
+moves_keep_point enclave other_enclave (InSecond action ∷ moves) one other one_sound other_sound point (permitted, rest_permitted) =
+    let rest_alike = moves_keep_point enclave other_enclave moves one (after_action action other) one_sound (action_sound action other other_sound)
     (foreign_in_second enclave other_enclave one other point one_sound other_sound action permitted) rest_permitted in
-    record { steps = moved_rest.steps; point = moved_rest.point }
-moved enclave other_enclave (InBoth hart other_hart ∷ moves) one other one_sound other_sound point (permitted, rest_permitted) =
+    record { steps = rest_alike.steps; point = rest_alike.point }
+moves_keep_point enclave other_enclave (InBoth hart other_hart ∷ moves) one other one_sound other_sound point (permitted, rest_permitted) =
     let own_step = one_move enclave other_enclave one other point one_sound other_sound (Own hart other_hart) permitted in
     let (same_step, _) = own_step.steps in
-    let moved_rest =
-    moved enclave other_enclave moves (step_of hart one).state (step_of other_hart other).state (action_sound (Occurs (StepOf hart)) one one_sound)
-    (action_sound (Occurs (StepOf other_hart)) other other_sound) own_step.point rest_permitted in
-    record { steps = (same_step, moved_rest.steps); point = moved_rest.point }
+    let rest_alike =
+    moves_keep_point enclave other_enclave moves (step_of hart one).state (step_of other_hart other).state
+    (action_sound (Occurs (StepOf hart)) one one_sound) (action_sound (Occurs (StepOf other_hart)) other other_sound) own_step.point rest_permitted in
+    record { steps = (same_step, rest_alike.steps); point = rest_alike.point }
 
 -- ---- commands
 
@@ -265,7 +265,7 @@ module _ (enclave other_enclave : ℕ) (bench other_bench : BenchState) (command
       → HasSameLife enclave other_enclave life.moves one other (after_commands bench commands).target
       (after_commands other_bench other_commands).target
   influence_on_machines one other one_sound other_sound first_leads second_leads life =
-      let moved_alike = moved enclave other_enclave life.moves one other one_sound other_sound life.point life.moves_permitted in
+      let moved_alike = moves_keep_point enclave other_enclave life.moves one other one_sound other_sound life.point life.moves_permitted in
       let some : MonitoredMachine → Option MonitoredMachine = λ machine. Some machine in
       record {
         steps = moved_alike.steps;

@@ -110,8 +110,8 @@ context = first_context (record {
 })
 
 -- The facts of the first machine that are computed. `same_size`, `live`, `saved_context_is` and `choice_outside_region` hold after create: slot 0 has
--- the context of a new enclave, and the byte of the host's choice is outside the region. The other fields follow the moves: the two steps of the host
--- to the call run, the load, the interrupt, the three steps of the host to the call resume, and the store.
+-- the context of a new enclave, and the byte of the host's choice is outside the region. The other fields follow the moves. These are the two
+-- steps of the host to the call run, the load, the interrupt, the three steps of the host to the call resume, and the store.
 record FirstMachineFacts (choice : ℕ) : Type 0 where
   same_size : length (hosted_next 0 (hosted_start 1 0)).shared.memory ≡ length (hosted_ram choice)
   live : is_live (first_machine choice).shared.table 0 ≡ true

@@ -17,8 +17,8 @@ use Rattle.rv_debug.proofs.ExecuteAlike.{equal_entries, mhartid}
 use Rattle.rv_debug.proofs.Prelude.{AfterRun, Selected, cases_Bool, csr_text, hart_text, no_csr_text, no_steps, ran_text, run, schedule_start}
 use Rattle.rv_debug.proofs.Prelude.{scheduled_steps, seen_block, selected_at, steps_of, harts_of, target_stepped, with_scheduled_step, with_selected}
 use Rattle.rv_debug.proofs.Prelude.{world_name}
-use Rattle.rv_debug.proofs.ObservedRuns.{RunObserved, own_steps, run_observed, same_numbers, same_traps, schedule_did}
-use Rattle.rv_debug.proofs.RelatedMoves.{Moved, related_after_moves}
+use Rattle.rv_debug.proofs.ObservedRuns.{RunObserved, own_steps, run_observed, same_step_counts, same_last_traps, schedule_summaries_are}
+use Rattle.rv_debug.proofs.RelatedMoves.{RelatedAfterMoves, related_after_moves}
 use Rattle.rv_debug.proofs.ScheduledSteps.{after_schedule}
 use Rattle.rv_debug.proofs.TargetRuns.{hart_pc, hart_stepped, run_monitored}
 
@@ -31,9 +31,11 @@ pub hart_texts : (enclave hart : ℕ) (one other : MonitoredMachine) → AreRela
 hart_texts enclave hart one other related text =
     let hart_related = related.hart_states hart in
     elim (cases_Bool (runs_on enclave hart one)) [
+      -- the enclave runs on the hart in both machines: both texts are hidden
       | inl on_hart ↦
           let on_other_hart : runs_on enclave hart other ≡ true = sym (ap (is_world_of enclave) hart_related.world) ∙ on_hart in
           rw (on_hart, on_other_hart) refl
+      -- it runs on the hart in neither machine: the guest states of the hart are equal
       | inr not_on_hart ↦
           let not_on_other_hart : runs_on enclave hart other ≡ false = sym (ap (is_world_of enclave) hart_related.world) ∙ not_on_hart in
           rw (not_on_hart, not_on_other_hart) (ap text (hart_related.same not_on_hart))
@@ -70,17 +72,17 @@ ran_with hart stop ran hart_state =
 -- Otherwise the hart, the observed steps and the last trap are equal in both.
 run_texts : (enclave hart : ℕ) (one other : MonitoredMachine) (one_run other_run : AfterRun MonitoredMachine) → RunObserved enclave hart one one_run
     → RunObserved enclave hart other other_run
-    → Moved enclave hart (replicate one_run.ran.steps hart) (replicate other_run.ran.steps hart) one other nothing_ran nothing_ran
+    → RelatedAfterMoves enclave hart (replicate one_run.ran.steps hart) (replicate other_run.ran.steps hart) one other nothing_ran nothing_ran
     → one_run.ran.stop ≡ other_run.ran.stop
     → run_text enclave hart one one_run ≡ run_text enclave hart other other_run
-run_texts enclave hart one other one_run other_run observed_of_one observed_of_other both_moved stop =
+run_texts enclave hart one other one_run other_run observed_of_one observed_of_other both_moved same_stop =
     let one_observed = observed_steps enclave hart (replicate one_run.ran.steps hart) one nothing_ran in
     let other_observed = observed_steps enclave hart (replicate other_run.ran.steps hart) other nothing_ran in
     let related : AreRelated enclave one_run.state other_run.state =
-    subst (λ (one_state : MonitoredMachine). AreRelated enclave one_state other_run.state) observed_of_one.state
-    (subst (AreRelated enclave _) observed_of_other.state both_moved.state) in
+    subst (λ (one_state : MonitoredMachine). AreRelated enclave one_state other_run.state) observed_of_one.state_is
+    (subst (AreRelated enclave _) observed_of_other.state_is both_moved.related_after) in
     let same_ran : runs_on enclave hart one_run.state ≡ false → one_observed ≡ other_observed =
-    λ not_on_hart. both_moved.ran (ap (runs_on enclave hart) observed_of_one.state ∙ not_on_hart) in
+    λ not_on_hart. both_moved.same_summaries (ap (runs_on enclave hart) observed_of_one.state_is ∙ not_on_hart) in
     let hart_related = related.hart_states hart in
     elim (cases_Bool (runs_on enclave hart one_run.state)) [
       -- the enclave runs on the hart after the first run, and therefore after the second run: both texts are empty
@@ -90,15 +92,16 @@ run_texts enclave hart one other one_run other_run observed_of_one observed_of_o
       -- the enclave runs on the hart after neither run: the observed steps, the last trap and the state of the hart are equal
       | inr not_on_hart ↦
           let not_on_other_hart : runs_on enclave hart other_run.state ≡ false = sym (ap (is_world_of enclave) hart_related.world) ∙ not_on_hart in
-          let trap : one_run.ran.trap ≡ other_run.ran.trap =
-          sym observed_of_one.trap ∙ ap (λ (ran : HartRan). ran.trap) (same_ran not_on_hart) ∙ observed_of_other.trap in
-          let steps : one_observed.steps ≡ other_observed.steps = ap (λ (ran : HartRan). ran.steps) (same_ran not_on_hart) in
+          let same_trap : one_run.ran.trap ≡ other_run.ran.trap =
+          sym observed_of_one.last_trap_is ∙ ap (λ (ran : HartRan). ran.trap) (same_ran not_on_hart) ∙ observed_of_other.last_trap_is in
+          let same_steps : one_observed.steps ≡ other_observed.steps = ap (λ (ran : HartRan). ran.steps) (same_ran not_on_hart) in
           let text : HartState → ℕ → Option Trap → Stop → List ℕ = λ hart_state steps trap stop.
           ran_text hart_state.hart.pc hart_state.hart.mode (world_name hart_state.world)
           (record { steps = steps; trap = trap; stop = stop; entered = 0 }) in
           rw (not_on_hart, not_on_other_hart)
-          (ap₂ (λ (hart_state : HartState) (steps : ℕ). text hart_state steps one_run.ran.trap one_run.ran.stop) (hart_related.same not_on_hart) steps
-          ∙ ap₂ (text (guest_state (hart_state_of hart other_run.state)) other_observed.steps) trap stop)
+          (ap₂ (λ (hart_state : HartState) (steps : ℕ). text hart_state steps one_run.ran.trap one_run.ran.stop) (hart_related.same not_on_hart)
+          same_steps
+          ∙ ap₂ (text (guest_state (hart_state_of hart other_run.state)) other_observed.steps) same_trap same_stop)
     ]
 
 -- two runs of related machines whose steps are moves, and that stop alike, have equal observations
@@ -108,21 +111,21 @@ pub runs_alike : (enclave hart : ℕ) (one other : MonitoredMachine) (breaks wat
     → (steps_of (selected_at hart one) breaks watches count).ran.stop ≡ (steps_of (selected_at hart other) breaks watches count).ran.stop
     → observed_run enclave (selected_at hart one) (steps_of (selected_at hart one) breaks watches count)
     ≡ observed_run enclave (selected_at hart other) (steps_of (selected_at hart other) breaks watches count)
-runs_alike enclave hart one other breaks watches count invariant other_invariant related steps stop =
-    let ran : MonitoredMachine
-    → AfterRun MonitoredMachine = λ machine. run (hart_stepped hart) (hart_pc hart) breaks watches count (no_steps machine) in
-    let one_is = run_monitored hart breaks watches count (no_steps one) in
-    let other_is = run_monitored hart breaks watches count (no_steps other) in
+runs_alike enclave hart one other breaks watches count invariant other_invariant related steps_are_moves same_stop =
+    let run_of : MonitoredMachine → AfterRun MonitoredMachine = λ machine.
+    run (hart_stepped hart) (hart_pc hart) breaks watches count (no_steps machine) in
+    let one_run_is = run_monitored hart breaks watches count (no_steps one) in
+    let other_run_is = run_monitored hart breaks watches count (no_steps other) in
     let harts_of_run : AfterRun Target → List ℕ = λ after. replicate after.ran.steps hart in
-    let stops : AfterRun Target → Stop = λ after. after.ran.stop in
-    let machine_steps : StepsAreMoves enclave one other (replicate (ran one).ran.steps hart) (replicate (ran other).ran.steps hart) =
-    subst (λ (xs : List ℕ). StepsAreMoves enclave one other xs (replicate (ran other).ran.steps hart)) (ap harts_of_run one_is)
-    (subst (StepsAreMoves enclave one other _) (ap harts_of_run other_is) steps) in
+    let stop_of_run : AfterRun Target → Stop = λ after. after.ran.stop in
+    let machine_steps : StepsAreMoves enclave one other (replicate (run_of one).ran.steps hart) (replicate (run_of other).ran.steps hart) =
+    subst (λ (one_harts : List ℕ). StepsAreMoves enclave one other one_harts (replicate (run_of other).ran.steps hart)) (ap harts_of_run one_run_is)
+    (subst (StepsAreMoves enclave one other _) (ap harts_of_run other_run_is) steps_are_moves) in
     observed_run_is enclave hart breaks watches count one
-    ∙ run_texts enclave hart one other (ran one) (ran other) (run_observed enclave hart breaks watches count one)
+    ∙ run_texts enclave hart one other (run_of one) (run_of other) (run_observed enclave hart breaks watches count one)
     (run_observed enclave hart breaks watches count other)
     (related_after_moves enclave hart _ _ one other invariant other_invariant related machine_steps)
-    (sym (ap stops one_is) ∙ stop ∙ ap stops other_is)
+    (sym (ap stop_of_run one_run_is) ∙ same_stop ∙ ap stop_of_run other_run_is)
     ∙ sym (observed_run_is enclave hart breaks watches count other)
 
 -- ---- schedules
@@ -151,8 +154,8 @@ hart_line enclave machine hart ran =
 
 -- `hart_lines` is the observation of the summaries of all harts
 abbrev hart_lines : ℕ → MonitoredMachine → HartRan → HartRan → List ℕ
-hart_lines enclave machine first second = hart_line enclave machine 0 first
-    ++ (if nat_lt 1 (count_of machine) then hart_line enclave machine 1 second else [])
+hart_lines enclave machine ran_0 ran_1 = hart_line enclave machine 0 ran_0
+    ++ (if nat_lt 1 (count_of machine) then hart_line enclave machine 1 ran_1 else [])
 
 -- what others observe of a schedule is `hart_lines` of its own steps on each hart
 observed_harts_are : (enclave : ℕ) (harts : List ℕ) (machine : Selected) (summary : Scheduled)
@@ -162,7 +165,7 @@ observed_harts_are : (enclave : ℕ) (harts : List ℕ) (machine : Selected) (su
 observed_harts_are enclave harts machine summary =
     let after = scheduled_steps harts (after_schedule (Monitored machine) summary) in
     let state_after = schedule_state harts machine summary in
-    let (ran_0_is, ran_1_is) = schedule_did harts machine summary in
+    let (ran_0_is, ran_1_is) = schedule_summaries_are harts machine summary in
     let lines : Target → HartRan → HartRan → List ℕ = λ target ran_0 ran_1.
     observed_hart enclave target 0 ran_0 ++ (if nat_lt 1 (harts_of target) then observed_hart enclave target 1 ran_1 else []) in
     ap (λ (target : Target). lines target after.did.first after.did.second) state_after.state_is
@@ -170,7 +173,7 @@ observed_harts_are enclave harts machine summary =
 
 -- the steps of the harts are moves of both machines, for the observations of each hart
 module _ (enclave : ℕ) (harts : List ℕ) (one other : MonitoredMachine)
-    (moves : (shown_hart : ℕ) → Moved enclave shown_hart harts harts one other nothing_ran nothing_ran) where
+    (moves : (shown_hart : ℕ) → RelatedAfterMoves enclave shown_hart harts harts one other nothing_ran nothing_ran) where
   -- the observed summaries of a hart are equal
   same_hart_line : (shown_hart : ℕ) → hart_line enclave (sched harts one).state shown_hart (own_steps shown_hart harts one nothing_ran)
       ≡ hart_line enclave (sched harts other).state shown_hart (own_steps shown_hart harts other nothing_ran)
@@ -178,24 +181,26 @@ module _ (enclave : ℕ) (harts : List ℕ) (one other : MonitoredMachine)
       let moved_alike = moves shown_hart in
       let one_ran = own_steps shown_hart harts one nothing_ran in
       let other_ran = own_steps shown_hart harts other nothing_ran in
-      let hart_related = moved_alike.state.hart_states shown_hart in
+      let hart_related = moved_alike.related_after.hart_states shown_hart in
       elim (cases_Bool (runs_on enclave shown_hart (sched harts one).state)) [
+        -- the enclave runs on the shown hart after both schedules: both observations are empty
         | inl on_hart ↦
             let on_other_hart : runs_on enclave shown_hart (sched harts other).state ≡ true =
             sym (ap (is_world_of enclave) hart_related.world) ∙ on_hart in
             rw (on_hart, on_other_hart) refl
+        -- it runs on the shown hart after neither schedule: the state of the hart, its steps and its last trap are equal
         | inr not_on_hart ↦
             let not_on_other_hart : runs_on enclave shown_hart (sched harts other).state ≡ false = sym (ap (is_world_of enclave) hart_related.world)
             ∙ not_on_hart in
-            let steps : one_ran.steps ≡ other_ran.steps = same_numbers shown_hart harts one other nothing_ran nothing_ran refl in
-            let trap : one_ran.trap ≡ other_ran.trap = same_traps enclave shown_hart harts one nothing_ran nothing_ran refl
-            ∙ ap (λ (ran : HartRan). ran.trap) (moved_alike.ran not_on_hart)
-            ∙ sym (same_traps enclave shown_hart harts other nothing_ran nothing_ran refl) in
+            let same_steps : one_ran.steps ≡ other_ran.steps = same_step_counts shown_hart harts one other nothing_ran nothing_ran refl in
+            let same_trap : one_ran.trap ≡ other_ran.trap = same_last_traps enclave shown_hart harts one nothing_ran nothing_ran refl
+            ∙ ap (λ (ran : HartRan). ran.trap) (moved_alike.same_summaries not_on_hart)
+            ∙ sym (same_last_traps enclave shown_hart harts other nothing_ran nothing_ran refl) in
             let text : HartState → ℕ → Option Trap → List ℕ = λ hart_state steps trap.
             hart_text shown_hart hart_state.hart.pc hart_state.hart.mode (world_name hart_state.world) (record { steps = steps; trap = trap }) in
             rw (not_on_hart, not_on_other_hart)
             (ap (λ (hart_state : HartState). text hart_state one_ran.steps one_ran.trap) (hart_related.same not_on_hart)
-            ∙ ap₂ (text (guest_state (hart_state_of shown_hart (sched harts other).state))) steps trap)
+            ∙ ap₂ (text (guest_state (hart_state_of shown_hart (sched harts other).state))) same_steps same_trap)
       ]
 
   -- the observed summaries of all harts are equal
@@ -204,7 +209,7 @@ module _ (enclave : ℕ) (harts : List ℕ) (one other : MonitoredMachine)
   same_hart_lines =
       let moved_alike = moves 0 in
       ap₂ (λ (line lines : List ℕ). line ++ lines) (same_hart_line 0)
-      (ap₂ (λ (hart_count : ℕ) (line : List ℕ). if nat_lt 1 hart_count then line else []) moved_alike.state.harts (same_hart_line 1))
+      (ap₂ (λ (hart_count : ℕ) (line : List ℕ). if nat_lt 1 hart_count then line else []) moved_alike.related_after.harts (same_hart_line 1))
 
 -- two schedules of related machines whose steps are moves have equal observations
 pub schedules_alike : (enclave hart : ℕ) (harts : List ℕ) (one other : MonitoredMachine) → Invariant one → Invariant other
@@ -214,7 +219,7 @@ pub schedules_alike : (enclave hart : ℕ) (harts : List ℕ) (one other : Monit
 schedules_alike enclave hart harts one other invariant other_invariant related steps =
     observed_harts_are enclave harts (record { hart = hart; state = one }) _
     ∙ same_hart_lines enclave harts one other
-    (λ observed. related_after_moves enclave observed harts harts one other invariant other_invariant related steps)
+    (λ shown_hart. related_after_moves enclave shown_hart harts harts one other invariant other_invariant related steps)
     ∙ sym (observed_harts_are enclave harts (record { hart = hart; state = other }) _)
 
 -- ---- registers
@@ -257,7 +262,9 @@ module _ (enclave : ℕ) (one other : MonitoredMachine) (related : AreRelated en
       let (outside_region_block, not_in_window_while_running) = both_parts_fail (meets block (region one.shared.table enclave)) _ not_private in
       let outside_region = seen_block block (region one.shared.table enclave) outside_region_block byte at_or_above_base below_end in
       elim (cases_Bool (runs one.shared.table enclave)) [
+        -- the enclave does not run: only bytes of its region may differ, and the byte is outside the region
         | inr not_running ↦ rw (outside_region, not_running) refl
+        -- the enclave runs: the byte is outside its region and its window
         | inl running ↦
             let outside_window_block =
             ap (λ (runs_now : Bool). runs_now && meets block (window one.shared.table enclave)) (sym running) ∙ not_in_window_while_running in
@@ -271,8 +278,10 @@ module _ (enclave : ℕ) (one other : MonitoredMachine) (related : AreRelated en
   reads_alike block not_private =
       let memory = related.memory in
       elim (cases_Bool (is_inside one.shared.memory block.base block.size)) [
+        -- the block is in RAM: both reads give its bytes, which are equal
         | inl in_ram ↦ same_read (may_differ one.shared.table enclave) one.shared.memory other.shared.memory block.base block.size memory in_ram
             (no_private_byte block not_private)
+        -- the block is not all in RAM: both reads give None
         | inr outside_ram ↦
             let same_size = memory.size in
             read-none one.shared.memory block.base block.size outside_ram
@@ -287,9 +296,11 @@ module _ (enclave : ℕ) (one other : MonitoredMachine) (related : AreRelated en
       let same_names : names_private_bytes one block ≡ names_private_bytes other block =
       ap (λ (table : Slots). meets block (region table enclave) || (runs table enclave && meets block (window table enclave))) related.table in
       elim (cases_Bool (names_private_bytes one block)) [
+        -- the block names private bytes in both machines: both texts are hidden
         | inl is_private ↦
             let same_in_other : names_private_bytes other block ≡ true = sym same_names ∙ is_private in
             rw (is_private, same_in_other) refl
+        -- it names none: the bytes that are read are equal
         | inr not_private ↦
             let same_in_other : names_private_bytes other block ≡ false = sym same_names ∙ not_private in
             rw (not_private, same_in_other) (ap text (reads_alike block not_private))

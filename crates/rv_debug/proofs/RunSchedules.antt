@@ -29,10 +29,10 @@ select_same_hart hart target selected_of_is =
 -- schedule ends in the state of the run and enters the same slots, whatever summary it begins with.
 record IsScheduled (hart : ℕ) (target : Target) (slots earlier : ℕ) (after : AfterRun Target) : Type 0 where
   count : ℕ
-  steps : after.ran.steps ≡ earlier + count
-  selected : selected_of after.state ≡ hart
-  state : (summary : Scheduled) → (scheduled_steps (replicate count hart) (after_schedule target summary)).state ≡ after.state
-  entered : (summary : Scheduled)
+  steps_are : after.ran.steps ≡ earlier + count
+  selected_is : selected_of after.state ≡ hart
+  state_is : (summary : Scheduled) → (scheduled_steps (replicate count hart) (after_schedule target summary)).state ≡ after.state
+  entered_slots_are : (summary : Scheduled)
       → summary.entered ≡ slots → (scheduled_steps (replicate count hart) (after_schedule target summary)).did.entered ≡ after.ran.entered
 
 -- a run that ends here is a schedule of 0 more steps
@@ -40,7 +40,13 @@ ended_is_scheduled : (hart : ℕ) (so_far : AfterSteps Target) (stop : Stop) →
     → IsScheduled hart so_far.state so_far.entered so_far.steps (ended so_far stop)
 unfolding scheduled_steps
 ended_is_scheduled hart so_far stop is_selected =
-    record { count = 0; steps = omega arith; selected = is_selected; state = λ summary. refl; entered = λ summary entered_is. entered_is }
+    record {
+      count = 0;
+      steps_are = omega arith;
+      selected_is = is_selected;
+      state_is = λ summary. refl;
+      entered_slots_are = λ summary same_slots. same_slots;
+    }
 
 -- a run that continues is a schedule of one step and of the steps of the remaining run
 step_is_scheduled : (hart : ℕ) (before : AfterSteps Target) (after : AfterRun Target) → selected_of before.state ≡ hart
@@ -52,14 +58,15 @@ step_is_scheduled hart before after is_selected rest_scheduled =
     let next_step_of : Target → Scheduled → AfterSchedule = λ target summary. scheduled_steps (replicate rest_scheduled.count hart)
     (with_scheduled_step hart (after_schedule before.state summary) (target_stepped target)) in
     let same_target = select_same_hart hart before.state is_selected in
-    let did_of : Scheduled → Scheduled = λ summary. (with_scheduled_step hart (after_schedule before.state summary) last).did in
+    let summary_after : Scheduled → Scheduled = λ summary. (with_scheduled_step hart (after_schedule before.state summary) last).did in
     record {
       count = suc rest_scheduled.count;
-      steps = rest_scheduled.steps ∙ omega arith;
-      selected = rest_scheduled.selected;
-      state = λ summary. ap (λ (target : Target). (next_step_of target summary).state) same_target ∙ rest_scheduled.state (did_of summary);
-      entered = λ summary entered_is. ap (λ (target : Target). (next_step_of target summary).did.entered) same_target
-          ∙ rest_scheduled.entered (did_of summary) (ap (λ (slots : ℕ). slots_with slots last.entered) entered_is);
+      steps_are = rest_scheduled.steps_are ∙ omega arith;
+      selected_is = rest_scheduled.selected_is;
+      state_is = λ summary. ap (λ (target : Target). (next_step_of target summary).state) same_target
+          ∙ rest_scheduled.state_is (summary_after summary);
+      entered_slots_are = λ summary same_slots. ap (λ (target : Target). (next_step_of target summary).did.entered) same_target
+          ∙ rest_scheduled.entered_slots_are (summary_after summary) (ap (λ (slots : ℕ). slots_with slots last.entered) same_slots);
     }
 
 -- Every run is the schedule of as many steps of its hart, by induction over the steps of the run.
@@ -78,10 +85,10 @@ pub run_done : (target : Target) (breaks watches : List ℕ) (count : ℕ)
 run_done target breaks watches count =
     let scheduled = run_is_scheduled breaks watches (selected_of target) count (no_steps target) refl in
     let end = steps_of target breaks watches count in
-    let same_count : scheduled.count ≡ end.ran.steps = omega (arith, scheduled.steps) in
+    let same_count : scheduled.count ≡ end.ran.steps = omega (arith, scheduled.steps_are) in
     ap (λ (steps : ℕ). with_selected (selected_of target) (scheduled_steps (replicate steps (selected_of target)) (schedule_start target)).state)
     (sym same_count)
-    ∙ ap (with_selected (selected_of target)) (scheduled.state _) ∙ select_same_hart (selected_of target) end.state scheduled.selected
+    ∙ ap (with_selected (selected_of target)) (scheduled.state_is _) ∙ select_same_hart (selected_of target) end.state scheduled.selected_is
 
 -- a run enters the same slots as its effect
 pub run_entered : (target : Target) (breaks watches : List ℕ) (count : ℕ)
@@ -89,6 +96,6 @@ pub run_entered : (target : Target) (breaks watches : List ℕ) (count : ℕ)
 run_entered target breaks watches count =
     let scheduled = run_is_scheduled breaks watches (selected_of target) count (no_steps target) refl in
     let end = steps_of target breaks watches count in
-    let same_count : scheduled.count ≡ end.ran.steps = omega (arith, scheduled.steps) in
+    let same_count : scheduled.count ≡ end.ran.steps = omega (arith, scheduled.steps_are) in
     ap (λ (steps : ℕ). (scheduled_steps (replicate steps (selected_of target)) (schedule_start target)).did.entered) (sym same_count)
-    ∙ scheduled.entered _ refl
+    ∙ scheduled.entered_slots_are _ refl

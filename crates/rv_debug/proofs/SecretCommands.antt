@@ -15,30 +15,30 @@ use Rattle.rv_debug.proofs.Prelude.{BenchState, Effect, Selected, Steps, both_wa
 use Rattle.rv_debug.proofs.Prelude.{over_memory, run, selected_at}
 use Rattle.rv_debug.proofs.Declassification.{list_declassification, relation_law}
 use Rattle.rv_debug.proofs.ScheduledSteps.{schedule_is_sched}
-use Rattle.rv_debug.proofs.SecretRun.{bytes_after_secret, secret_address, moves_permitted, computed, is_in_a0, secret_is_at_offset, start_idle}
+use Rattle.rv_debug.proofs.SecretRun.{bytes_after_secret, secret_address, moves_permitted, secret_run_facts, is_in_a0, secret_is_at_offset, start_idle}
 use Rattle.rv_debug.proofs.SecretRun.{invariant_before_create, steps_concealed}
 
 -- ---- commands on a machine whose hart 0 is selected
 
 -- on each machine, the command `step` with this count steps these harts, and stops since all its steps are executed
 record IsStepOf (count : ℕ) (harts : List ℕ) : Type 0 where
-  steps : (machine : MonitoredMachine) → effect (monitored machine) (Step count) ≡ Steps harts 0
-  stops : (machine : MonitoredMachine) → stop_of (monitored machine) (Step count) ≡ Done
+  effect_is : (machine : MonitoredMachine) → effect (monitored machine) (Step count) ≡ Steps harts 0
+  stop_is : (machine : MonitoredMachine) → stop_of (monitored machine) (Step count) ≡ Done
 
 -- the command `step 1` is one step of hart 0
 one_step : IsStepOf 1 (0 ∷ [])
 unfolding run lowest_accessed
-one_step = record { steps = λ machine. refl; stops = λ machine. refl }
+one_step = record { effect_is = λ machine. refl; stop_is = λ machine. refl }
 
 -- the command `step 2` is two steps of hart 0
 two_steps : IsStepOf 2 (0 ∷ 0 ∷ [])
 unfolding run lowest_accessed
-two_steps = record { steps = λ machine. refl; stops = λ machine. refl }
+two_steps = record { effect_is = λ machine. refl; stop_is = λ machine. refl }
 
 -- the command `step 3` is three steps of hart 0
 three_steps : IsStepOf 3 (0 ∷ 0 ∷ 0 ∷ [])
 unfolding run lowest_accessed
-three_steps = record { steps = λ machine. refl; stops = λ machine. refl }
+three_steps = record { effect_is = λ machine. refl; stop_is = λ machine. refl }
 
 -- two machines, and the commands that follow in each
 module _ (one other : MonitoredMachine) (commands other_commands : List Command) where
@@ -56,18 +56,18 @@ module _ (one other : MonitoredMachine) (commands other_commands : List Command)
       let start : Selected = record { hart = 0; state = machine } in
       let bench_over : Target → BenchState = λ target. record { target = target; breaks = []; watches = [] } in
       ap bench_over (sym (schedule_is_sched harts start _ 0))
-      ∙ ap (λ (change : Effect). bench_over (done (Monitored start) change)) (sym (is_step.steps machine)) in (
+      ∙ ap (λ (change : Effect). bench_over (done (Monitored start) change)) (sym (is_step.effect_is machine)) in (
         -- the steps of the command are the moves, and both runs stop for the same reason
         inl (inl (record {
           same = refl;
           steps = record {
             moves = moves;
             steps = all_steps;
-            first = first_harts_are ∙ ap harts_stepped (sym (is_step.steps one));
-            second = second_harts_are ∙ ap harts_stepped (sym (is_step.steps other));
+            first = first_harts_are ∙ ap harts_stepped (sym (is_step.effect_is one));
+            second = second_harts_are ∙ ap harts_stepped (sym (is_step.effect_is other));
             are = moved;
           };
-          stop = is_step.stops one ∙ sym (is_step.stops other);
+          stop = is_step.stop_is one ∙ sym (is_step.stop_is other);
         })),
         -- the remaining commands begin in the benches after the steps
         subst (λ (bench : BenchState). AllCommandsAlike 0 bench (execute (monitored other) (Step count)).state commands other_commands) (after one)
@@ -125,7 +125,7 @@ secret_in_ram = refl
 poke_gives_secret_ram : (secret : ℕ) → write (secret_next secret_start).shared.memory secret_address (secret ∷ []) ≡ Some (secret_ram secret)
 poke_gives_secret_ram secret =
     let some : List ℕ → Option (List ℕ) = λ memory. Some memory in
-    ap (λ (memory : List ℕ). write memory secret_address (secret ∷ [])) (computed 0).memory
+    ap (λ (memory : List ℕ). write memory secret_address (secret ∷ [])) (secret_run_facts 0).memory_is
     ∙ write-some (secret_ram 0) secret_address (secret ∷ []) secret_in_ram
     ∙ ap some (ap (λ (index : ℕ). write_bytes (secret_ram 0) index (secret ∷ [])) (sym secret_is_at_offset)
     ∙ write_replaces before_secret (replicate bytes_after_secret 0) 0 secret)
@@ -146,24 +146,33 @@ commands_alike secret other_secret =
     -- the moves of the example: the call run, the load, the timer line, the interrupt, the call resume, the last step
     let (run_1, (run_2, (load_1, (load_2, (_, (exits, (resume_1, (resume_2, (resume_3, (last_1, (last_2, _))))))))))) =
     moves_permitted secret other_secret in
-    let ends =
+    -- the last command `step 1`: a step of the enclave in each machine
+    let last_step_alike =
     alike_with_step (secret_resumed secret) (secret_resumed other_secret) [] [] 1 (0 ∷ []) (First 0 ∷ Second 0 ∷ []) one_step refl refl refl
     (last_1, (last_2, tt)) tt in
-    let resumes = alike_with_step (secret_interrupted secret) (secret_interrupted other_secret) (Step 1 ∷ []) (Step 1 ∷ []) 3 (0 ∷ 0 ∷ 0 ∷ [])
+    -- `step 3`: the three steps of the host to the call resume are low
+    let alike_from_resume =
+    alike_with_step (secret_interrupted secret) (secret_interrupted other_secret) (Step 1 ∷ []) (Step 1 ∷ []) 3 (0 ∷ 0 ∷ 0 ∷ [])
     (Both (StepOf 0) ∷ Both (StepOf 0) ∷ Both (StepOf 0) ∷ []) three_steps refl refl refl
-    (resume_1, (resume_2, (resume_3, tt))) ends in
-    let interrupts =
+    (resume_1, (resume_2, (resume_3, tt))) last_step_alike in
+    -- `step 1` after the timer line: the enclave exits from both machines; then `regs`
+    let alike_from_interrupt =
     alike_with_step (secret_raised secret) (secret_raised other_secret) (Regs ∷ resume) (Regs ∷ resume) 1 (0 ∷ [])
     (Both (StepOf 0) ∷ []) one_step refl
-    refl refl (exits, tt) (alike_with_regs (secret_interrupted secret) (secret_interrupted other_secret) resume resume resumes) in
-    let loads =
+    refl refl (exits, tt) (alike_with_regs (secret_interrupted secret) (secret_interrupted other_secret) resume resume
+    alike_from_resume) in
+    -- `step 1`: each enclave loads its secret; then the timer line is set
+    let alike_from_load =
     alike_with_step (secret_entered secret) (secret_entered other_secret) interrupt interrupt 1 (0 ∷ [])
     (First 0 ∷ Second 0 ∷ []) one_step refl refl refl
     (load_1, (load_2, tt))
     (alike_with_timer (secret_next (secret_entered secret)) (secret_next (secret_entered other_secret)) (Step 1 ∷ Regs ∷ resume)
-    (Step 1 ∷ Regs ∷ resume) interrupts) in
-    let runs_enclave = alike_with_step (secret_new secret) (secret_new other_secret) (Step 1 ∷ interrupt) (Step 1 ∷ interrupt) 2 (0 ∷ 0 ∷ [])
-    (Both (StepOf 0) ∷ Both (StepOf 0) ∷ []) two_steps refl refl refl (run_1, (run_2, tt)) loads in
+    (Step 1 ∷ Regs ∷ resume) alike_from_interrupt) in
+    -- `step 2`: the two steps of the host to the call run are low
+    let alike_from_run = alike_with_step (secret_new secret) (secret_new other_secret) (Step 1 ∷ interrupt) (Step 1 ∷ interrupt) 2 (0 ∷ 0 ∷ [])
+    (Both (StepOf 0) ∷ Both (StepOf 0) ∷ []) two_steps refl refl refl (run_1, (run_2, tt))
+    alike_from_load in
+    -- the first `step 1`, which calls create, is low; then each secret is poked into the region
     let rest_commands : List Command = Step 2 ∷ Step 1 ∷ interrupt in
     alike_with_step secret_start secret_start (Poke secret_address secret ∷ rest_commands) (Poke secret_address other_secret ∷ rest_commands) 1
     (0 ∷ []) (Both (StepOf 0) ∷ [])
@@ -171,7 +180,8 @@ commands_alike secret other_secret =
     (inl (record { low = start_idle.not_on_hart; window = λ running. absurd (both_ways _ start_idle.not_running running) }), tt)
     (alike_with_poke (secret_next secret_start) (secret_next secret_start) rest_commands rest_commands secret_address secret other_secret
     (secret_ram secret) (secret_ram other_secret)
-    (poke_gives_secret_ram secret) (poke_gives_secret_ram other_secret) (computed 0).region_has (computed 0).region_has runs_enclave)
+    (poke_gives_secret_ram secret) (poke_gives_secret_ram other_secret) (secret_run_facts 0).region_has
+    (secret_run_facts 0).region_has alike_from_run)
 
 -- the commands are alike, and their observations are equal
 commands_concealed : (secret other_secret : ℕ) → AreConcealed secret other_secret

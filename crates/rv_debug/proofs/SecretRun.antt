@@ -58,13 +58,16 @@ pub record IsIdle (machine : MonitoredMachine) : Type 0 where
   pub not_on_hart : runs_on 0 0 machine ≡ false
   pub not_running : runs machine.shared.table 0 ≡ false
 
--- The facts of the example that are computed, for each secret. RAM has 131072 bytes. The first five hold after create. The other fields follow the
--- moves. These are the call run (`run_1`, `run_2`), the load of the secret (`before_load`, `after_load`), and the exit by the timer interrupt
--- (`running` to `exits`). Then come the call resume (`resume_1` to `resume_3`) and one more step of the enclave (`before_last`, `after_last`).
-pub record Computed (secret : ℕ) : Type 0 where
-  size : length (secret_next secret_start).shared.memory ≡ length (secret_ram secret)
-  pub memory : (secret_next secret_start).shared.memory ≡ secret_ram 0
-  live : is_live (secret_next secret_start).shared.table 0 ≡ true
+-- The facts of the example that are computed, for each secret. RAM has 131072 bytes. The first five hold after create. They state
+-- the size and the bytes of the memory, and that the enclave is live. Its region has the address of the secret, whose byte may differ. The other
+-- fields follow the moves.
+-- These are the call run (`run_1`, `run_2`), the load of the secret (`before_load`, `after_load`), and the exit by the timer interrupt
+-- (`runs_before_interrupt` to `host_runs_after`). Then come the call resume (`resume_1` to `resume_3`) and one more step of the enclave
+-- (`before_last`, `after_last`).
+pub record SecretRunFacts (secret : ℕ) : Type 0 where
+  same_size : length (secret_next secret_start).shared.memory ≡ length (secret_ram secret)
+  pub memory_is : (secret_next secret_start).shared.memory ≡ secret_ram 0
+  enclave_is_live : is_live (secret_next secret_start).shared.table 0 ≡ true
   pub region_has : has (region (secret_next secret_start).shared.table 0) secret_address ≡ true
   secret_in_region : may_differ (secret_next secret_start).shared.table 0 secret_address ≡ true
   -- the two steps of the host that call run
@@ -74,11 +77,11 @@ pub record Computed (secret : ℕ) : Type 0 where
   before_load : runs_on 0 0 (secret_entered secret) ≡ true
   after_load : runs_on 0 0 (secret_next (secret_entered secret)) ≡ true
   -- the timer interrupt: the enclave runs before the interrupt, has no window, and exits to the host
-  running : runs_on 0 0 (secret_raised secret) ≡ true
-  window : window (secret_raised secret).shared.table 0 ≡ no_block
+  runs_before_interrupt : runs_on 0 0 (secret_raised secret) ≡ true
+  window_is_empty : window (secret_raised secret).shared.table 0 ≡ no_block
   memory_size : length (secret_raised secret).shared.memory ≡ 131072
-  trap : (step_of 0 (secret_raised secret)).outcome.step.trap ≡ Some timer_trap
-  exits : (hart_state_of 0 (secret_interrupted secret)).world ≡ Host
+  trap_is : (step_of 0 (secret_raised secret)).outcome.step.trap ≡ Some timer_trap
+  host_runs_after : (hart_state_of 0 (secret_interrupted secret)).world ≡ Host
   -- the three steps of the host that call resume
   resume_1 : IsIdle (secret_interrupted secret)
   resume_2 : IsIdle (secret_next (secret_interrupted secret))
@@ -88,26 +91,26 @@ pub record Computed (secret : ℕ) : Type 0 where
   after_last : runs_on 0 0 (secret_next (secret_resumed secret)) ≡ true
 
 -- Proves the facts of the example by computation of the steps, for each secret.
-pub computed : (secret : ℕ) → Computed secret
+pub secret_run_facts : (secret : ℕ) → SecretRunFacts secret
 unfolding at_start step_of monitored_step handled call_handled called performed created create_refusals is_valid_block is_window overlaps is_entry
     free_slot call_requested first_context layout entry_at step request executed retired_or_trapped from_access from_decode from_fetch
     written_csr csr_changed
     decoded by_bits read verdict matching_entry covers ones_at_end kept_bits state_refusals entered_slot left timer_stopped
-computed secret = record {
-  size = refl;
-  memory = refl;
-  live = refl;
+secret_run_facts secret = record {
+  same_size = refl;
+  memory_is = refl;
+  enclave_is_live = refl;
   region_has = refl;
   secret_in_region = refl;
   run_1 = record { not_on_hart = refl; not_running = refl };
   run_2 = record { not_on_hart = refl; not_running = refl };
   before_load = refl;
   after_load = refl;
-  running = refl;
-  window = refl;
+  runs_before_interrupt = refl;
+  window_is_empty = refl;
   memory_size = refl;
-  trap = refl;
-  exits = refl;
+  trap_is = refl;
+  host_runs_after = refl;
   resume_1 = record { not_on_hart = refl; not_running = refl };
   resume_2 = record { not_on_hart = refl; not_running = refl };
   resume_3 = record { not_on_hart = refl; not_running = refl };
@@ -137,7 +140,8 @@ invariant_before_create = written_invariant 0 secret_asking false secret_reset (
 -- the machine with a secret has the invariant
 invariant_after_create : (secret : ℕ) → Invariant (secret_new secret)
 invariant_after_create secret =
-    invariant_by_size (secret_next secret_start) (secret_ram secret) (invariant_law 0 secret_start invariant_before_create) (computed secret).size
+    invariant_by_size (secret_next secret_start) (secret_ram secret) (invariant_law 0 secret_start invariant_before_create)
+    (secret_run_facts secret).same_size
 
 -- two lists that differ only in the byte after the list `before` are equal at every other index
 pub other_byte : (before after : List ℕ) (byte changed index : ℕ) → index ≢ length before
@@ -157,16 +161,18 @@ machines_related : (secret other_secret : ℕ) → AreRelated 0 (secret_new secr
 machines_related secret other_secret =
     memory_related 0 (secret_next secret_start) (secret_next secret_start) (secret_ram secret) (secret_ram other_secret)
     (related_itself 0 (secret_next secret_start)) (record {
-      size = sym (computed secret).size ∙ (computed other_secret).size;
+      size = sym (secret_run_facts secret).same_size ∙ (secret_run_facts other_secret).same_size;
       bytes = λ index not_hidden. elim (cases_eq index secret_offset) [
+        -- the index of the secret: its address may differ, against the premise
         | inl is_secret ↦
             let secret_shown =
             ap (λ (any_index : ℕ). may_differ (secret_next secret_start).shared.table 0 (ram_base + any_index)) (sym is_secret) ∙ not_hidden in
-            absurd (both_ways _ secret_shown (computed secret).secret_in_region)
+            absurd (both_ways _ secret_shown (secret_run_facts secret).secret_in_region)
+        -- every other index: the two lists have the same byte
         | inr is_other ↦
             other_byte before_secret (replicate bytes_after_secret 0) secret other_secret index (λ equal. is_other (equal ∙ secret_is_at_offset))
       ];
-    }) (λ not_live. absurd (both_ways _ not_live (computed secret).live))
+    }) (λ not_live. absurd (both_ways _ not_live (secret_run_facts secret).enclave_is_live))
 
 -- the empty block has no byte
 no_byte : (byte : ℕ) → has no_block byte ≡ false
@@ -177,19 +183,20 @@ no_byte byte = grind (arith, nat_tests)
 -- the interrupt exits from both machines and hands over the same
 timer_exits_alike : (secret other_secret : ℕ) → ExitsAlike 0 0 (secret_raised secret) (secret_raised other_secret)
 timer_exits_alike secret other_secret = record {
-  runs = (computed secret).running;
+  runs = (secret_run_facts secret).runs_before_interrupt;
   window = record {
-    size = (computed secret).memory_size ∙ sym (computed other_secret).memory_size;
+    size = (secret_run_facts secret).memory_size ∙ sym (secret_run_facts other_secret).memory_size;
     bytes = λ index in_window.
-        let not_in_window = ap not (ap (λ (block : Block). has block (ram_base + index)) (computed secret).window ∙ no_byte (ram_base + index)) in
+        let not_in_window =
+        ap not (ap (λ (block : Block). has block (ram_base + index)) (secret_run_facts secret).window_is_empty ∙ no_byte (ram_base + index)) in
         absurd (both_ways _ in_window not_in_window);
   };
   trap = timer_trap;
   handover = tt;
-  first = (computed secret).trap;
-  second = (computed other_secret).trap;
-  first_exits = (computed secret).exits;
-  second_exits = (computed other_secret).exits;
+  first = (secret_run_facts secret).trap_is;
+  second = (secret_run_facts other_secret).trap_is;
+  first_exits = (secret_run_facts secret).host_runs_after;
+  second_exits = (secret_run_facts other_secret).host_runs_after;
 }
 
 -- the proof that the first move is permitted, followed by the proof for the other moves
@@ -199,8 +206,8 @@ and_then first_move others = (first_move, others)
 -- the moves of the example are permitted, for any two secrets
 pub moves_permitted : (secret other_secret : ℕ) → AreMoves 0 secret_moves (secret_new secret) (secret_new other_secret)
 moves_permitted secret other_secret =
-    let first_facts = computed secret in
-    let second_facts = computed other_secret in
+    let first_facts = secret_run_facts secret in
+    let second_facts = secret_run_facts other_secret in
     -- the host calls run
     and_then (inl (record { low = first_facts.run_1.not_on_hart; window = λ running. absurd (both_ways _ first_facts.run_1.not_running running) }))
     (and_then (inl (record { low = first_facts.run_2.not_on_hart; window = λ running. absurd (both_ways _ first_facts.run_2.not_running running) }))

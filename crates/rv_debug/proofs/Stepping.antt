@@ -41,7 +41,7 @@ run_induction {A} step pc breaks watches P at_end before_step (suc remaining) be
 
 -- `last` is the next step of a run, and `trap` and `entered` are the last trap and the entered slots after the step
 pub record IsNextStep {A : Type 0} (step : A → Stepped A) (before : AfterSteps A) (last : Stepped A) (trap : Option Trap) (entered : ℕ) : Type 0 where
-  pub steps : step before.state ≡ last
+  pub step_is : step before.state ≡ last
   pub trap_is : trap ≡ option_or last.outcome.trap before.trap
   pub entered_is : entered ≡ slots_with before.entered last.entered
 
@@ -105,22 +105,22 @@ module _ {A : Type 0} (step : A → Stepped A) (pc : A → ℕ) (breaks watches 
   after_step before last trap entered = record { state = last.state; steps = before.steps + 1; trap = trap; entered = entered }
 
   -- `with_step` of the definitions is `after_step`, which has the trap and the slots that the code computes
-  adds : (before : AfterSteps A) (last : Stepped A) (trap : Option Trap) (entered : ℕ) → IsNextStep step before last trap entered
+  with_step_is_after_step : (before : AfterSteps A) (last : Stepped A) (trap : Option Trap) (entered : ℕ) → IsNextStep step before last trap entered
       → with_step before (step before.state) ≡ after_step before last trap entered
-  adds before last trap entered next =
-      let steps = next.steps in
+  with_step_is_after_step before last trap entered next =
+      let step_is = next.step_is in
       let trap_is = next.trap_is in
       let entered_is = next.entered_is in
-      rw (steps, trap_is, entered_is) refl
+      rw (step_is, trap_is, entered_is) refl
 
   -- the run ends after the next step, if the step accesses a watched byte; `done` of the `count` steps are executed before it
   pub stops-watch : (count done : ℕ) (before : AfterSteps A) (last : Stepped A) (trap : Option Trap) (entered address : ℕ)
       → done < count → IsNextStep step before last trap entered → Some address ≡ lowest_accessed watches last.outcome.touched
       → run step pc breaks watches (count - done) before ≡ ended (after_step before last trap entered) (Watch address)
   stops-watch count done before last trap entered address steps_left next watch_hit =
-      let steps = next.steps in
-      run-watch (count - done) (count - (done + 1)) before address (omega arith) (rw steps watch_hit)
-      ∙ ap (λ after. ended after (Watch address)) (adds before last trap entered next)
+      let step_is = next.step_is in
+      run-watch (count - done) (count - (done + 1)) before address (omega arith) (rw step_is watch_hit)
+      ∙ ap (λ after. ended after (Watch address)) (with_step_is_after_step before last trap entered next)
 
   -- the run ends after the next step, if this step accesses no watched byte, leads to a breakpoint, and is not the last
   pub stops-break : (count done : ℕ) (before : AfterSteps A) (last : Stepped A) (trap : Option Trap) (entered : ℕ)
@@ -128,9 +128,9 @@ module _ {A : Type 0} (step : A → Stepped A) (pc : A → ℕ) (breaks watches 
       → true ≡ is_among (pc last.state) breaks
       → run step pc breaks watches (count - done) before ≡ ended (after_step before last trap entered) Break
   stops-break count done before last trap entered steps_left next no_watch_hit at_break =
-      let steps = next.steps in
-      run-break (count - done) (count - (done + 1)) before (omega arith) (omega arith) (rw steps no_watch_hit) (rw steps at_break)
-      ∙ ap (λ after. ended after Break) (adds before last trap entered next)
+      let step_is = next.step_is in
+      run-break (count - done) (count - (done + 1)) before (omega arith) (omega arith) (rw step_is no_watch_hit) (rw step_is at_break)
+      ∙ ap (λ after. ended after Break) (with_step_is_after_step before last trap entered next)
 
   -- the run continues after a step that is not the last, accesses no watched byte, and leads to no breakpoint
   pub goes-on : (count done : ℕ) (before : AfterSteps A) (last : Stepped A) (trap : Option Trap) (entered : ℕ)
@@ -138,9 +138,9 @@ module _ {A : Type 0} (step : A → Stepped A) (pc : A → ℕ) (breaks watches 
       → (done + 1 < count → is_among (pc last.state) breaks ≡ false)
       → run step pc breaks watches (count - done) before ≡ run step pc breaks watches (count - (done + 1)) (after_step before last trap entered)
   goes-on count done before last trap entered steps_left next no_watch_hit no_break =
-      let steps = next.steps in
-      run-more (count - done) (count - (done + 1)) before (omega arith) (rw steps no_watch_hit) (λ more_left. rw steps (no_break (omega arith)))
-      ∙ ap (run step pc breaks watches (count - (done + 1))) (adds before last trap entered next)
+      let step_is = next.step_is in
+      run-more (count - done) (count - (done + 1)) before (omega arith) (rw step_is no_watch_hit) (λ more_left. rw step_is (no_break (omega arith)))
+      ∙ ap (run step pc breaks watches (count - (done + 1))) (with_step_is_after_step before last trap entered next)
 
   -- the run continues after the next step, if there is no breakpoint and no watchpoint
   pub goes-on-free : (count done : ℕ) (before : AfterSteps A) (last : Stepped A) (trap : Option Trap) (entered : ℕ)
