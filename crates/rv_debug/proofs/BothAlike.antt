@@ -28,8 +28,10 @@ module _ (enclave : ℕ) where
       ⊎ ((is_blind enclave one command ≡ true) × (both_execute enclave one other command ≡ both_done one other command))
   unfolding both_execute
   executed_or_stopped one other command = elim (cases_Bool (is_blind enclave one command && is_blind enclave other command)) [
+    -- the command is blind in both benches: both execute it
     | inl both_blind ↦ let (blind, _) = and_parts _ _ both_blind in inr (blind, rw both_blind refl)
-    | inr not_both ↦ inl (not_both, rw not_both refl)
+    -- it is not blind in one of them: neither executes it
+    | inr not_both_blind ↦ inl (not_both_blind, rw not_both_blind refl)
   ]
 
   -- the region of `enclave` is the same in equivalent targets
@@ -63,11 +65,13 @@ module _ (enclave : ℕ) where
   done_alike : (one other : BenchState) (command : Command) → ExecuteAlike enclave (execute one command) (execute other command)
       → AlikeBy enclave one other command (both_done one other command) (both_done one other command).why
   done_alike one other command alike = elim (cases_Bool (is_entered enclave (execute one command).entered)) [
+    -- the command enters the enclave in the first bench, and so in the second: the reason is `Entered`
     | inl one_enters ↦
         let other_enters = sym alike.entered ∙ one_enters in
         subst (λ (why : BothWhy). AlikeBy enclave one other command (both_done one other command) why)
         (sym (reason_of_entries one other command true true one_enters other_enters))
         (record { in_first = one_enters; in_second = other_enters })
+    -- it enters the enclave in neither bench: the reason is `All`, the replies are equal and the benches are equivalent
     | inr not_entered ↦
         let passed = alike.passed not_entered in
         subst (λ (why : BothWhy). AlikeBy enclave one other command (both_done one other command) why)
@@ -79,10 +83,12 @@ module _ (enclave : ℕ) where
   pub both_alike : (one other : BenchState) (command : Command) → TargetInvariant one.target
       → TargetInvariant other.target → StayAlike enclave one other command (both_execute enclave one other command)
   both_alike one other command invariant other_invariant equiv avoids_hart = elim (executed_or_stopped one other command) [
+    -- neither bench executes the command, which is blind in neither
     | inl (not_both_blind, is_stopped) ↦
         let not_blind = first_test_fails _ _ (same_blind one other command equiv) not_both_blind in
         subst (λ (after : BothExecuted). AlikeBy enclave one other command after after.why) (sym is_stopped)
         (record { in_first = not_blind; in_second = sym (same_blind one other command equiv) ∙ not_blind })
+    -- both benches execute the command, and noninterference makes the executions alike
     | inr (blind, both_execute_is) ↦ subst (λ (after : BothExecuted). AlikeBy enclave one other command after after.why) (sym both_execute_is)
         (done_alike one other command (noninterference enclave one other command invariant other_invariant equiv blind avoids_hart))
   ]
@@ -125,8 +131,10 @@ module _ (enclave : ℕ) where
   pub folded : (one other : BenchState) (commands : List Command) → Folded one other commands (both_run enclave one other commands)
   folded one other [] = subst (Folded one other []) (sym (empty_run one other)) (refl, refl)
   folded one other (command ∷ commands) = elim (executed_or_stopped one other command) [
+    -- neither bench executes the first command, so both end as they began
     | inl (not_both_blind, is_stopped) ↦ subst (Folded one other (command ∷ commands))
         (sym (run_with_first_command one other command commands (stopped one other) NotBlind is_stopped refl)) (refl, refl)
+    -- both benches execute the first command, and then the remaining commands by induction
     | inr (blind, both_execute_is) ↦
         subst (Folded one other (command ∷ commands))
         (sym (run_with_first_command one other command commands (both_done one other command) _ both_execute_is refl))

@@ -160,9 +160,11 @@ pub equal_entries : (hart : ℕ) (one other : MonitoredMachine) → Invariant on
 equal_entries hart one other invariant other_invariant same_harts same_table same_world =
     let entries : HartState → Entries = λ hart_state. hart_state.hart.csrs.pmp in
     elim (cases_lt hart (count_of one)) [
+      -- neither machine has the hart: both have the state of a hart past the last one
       | inr out_of_range ↦
           let other_out_of_range : count_of other ≤ hart = omega (arith, same_harts, out_of_range) in
           ap entries (past_hart_state one.hart_states hart out_of_range ∙ sym (past_hart_state other.hart_states hart other_out_of_range))
+      -- both machines have the hart: its entries are the layout of the table and its world
       | inl in_range ↦
           let entries_of : Slots → World → Entries = λ table world. layout table world in
           let first_layout = (hart_view_invariant hart one invariant in_range).hart.layout.entries in
@@ -177,7 +179,9 @@ pub same_access_reply : (one_memory other_memory : List ℕ) → length one_memo
 unfolding read
 same_access_reply one_memory other_memory same_size entries mode access address width =
     elim (cases_Bool (is_inside one_memory address (bytes_in width))) [
+      -- the block is in RAM of both memories, which have the same size: both replies are the verdict of the PMP entries
       | inl in_ram ↦ rw (← same_size, in_ram) refl
+      -- the block is not all in RAM of either memory: the replies are equal
       | inr outside_ram ↦ rw (← same_size, outside_ram) refl
     ]
 
@@ -190,7 +194,9 @@ not_on_hart_of_range : (enclave count start hart : ℕ) (machine : MonitoredMach
     → runs_on enclave hart machine ≡ false
 not_on_hart_of_range enclave zero start hart machine runs_on_none from_start below_end = absurd (omega (arith, from_start, below_end))
 not_on_hart_of_range enclave (suc count) start hart machine (not_on_start, on_none_of_rest) from_start below_end = elim (cases_eq hart start) [
+  -- the hart is the first of the range
   | inl is_start ↦ ap (λ (other_hart : ℕ). runs_on enclave other_hart machine) is_start ∙ not_on_start
+  -- the hart is one of the others, and the claim holds by induction
   | inr is_not_start ↦
       not_on_hart_of_range enclave count (start + 1) hart machine on_none_of_rest (omega (arith, from_start, is_not_start)) (omega (arith, below_end))
 ]
@@ -258,8 +264,10 @@ module _ (enclave hart : ℕ) (one other : MonitoredMachine) (equiv : EquivExcep
   same_visible_read block meets_no_private =
       let memory = memory_equiv in
       elim (cases_Bool (is_inside one.shared.memory block.base block.size)) [
+        -- the block is in RAM: both reads give its bytes, and none of them is private
         | inl in_ram ↦ same_read (is_private one.shared.table enclave) one.shared.memory other.shared.memory block.base block.size memory in_ram
             (seen_block block (region one.shared.table enclave) meets_no_private)
+        -- the block is not all in RAM: both reads give None
         | inr outside_ram ↦
             let same_size = memory.size in
             read-none one.shared.memory block.base block.size outside_ram
@@ -389,6 +397,7 @@ module _ (enclave hart : ℕ) (one other : MonitoredMachine) (equiv : EquivExcep
   sched_executed_alike harts true true same_exist invariant other_invariant on_no_hart =
       elim (scheduled_steps_alike enclave harts (as_selected one) (as_selected other) _ invariant other_invariant targets_equiv
       (on_none_of enclave harts one on_no_hart)) [
+        -- both schedules enter the enclave, so nothing is claimed of the replies and the benches
         | inl both_enter ↦ record {
           entered = both_enter.one_enters ∙ sym both_enter.other_enters;
           passed = λ not_entered. let contradiction : true ≡ false = sym both_enter.one_enters ∙ not_entered in cc;

@@ -18,23 +18,25 @@ reprogrammed_as_is hart machine invariant in_range =
     sym (reprogramming_changes_nothing machine.shared.table (hart_state_of hart machine) (invariant.hart_states hart in_range))
 
 -- two hart numbers differ if the test of equality fails
-differs_if_test_fails : (stepped hart : ℕ) → not (stepped == hart) ≡ true → hart ≢ stepped
-differs_if_test_fails stepped hart not_equal equal =
-    let is_same = eq-eqb stepped hart (sym equal) in
+differs_if_test_fails : (stepped_hart hart : ℕ) → not (stepped_hart == hart) ≡ true → hart ≢ stepped_hart
+differs_if_test_fails stepped_hart hart not_equal equal =
+    let is_same = eq-eqb stepped_hart hart (sym equal) in
     let contradiction : false ≡ true = rw is_same at not_equal in cc
 
 -- Steps of other harts leave a hart as it is, except for its PMP entries and mie. The proof is by induction over the harts that step.
 sched_leaves : (hart : ℕ) (harts : List ℕ) (machine : MonitoredMachine) → Invariant machine → hart < count_of machine
-    → list_all (λ stepped. not (stepped == hart)) harts ≡ true
+    → list_all (λ stepped_hart. not (stepped_hart == hart)) harts ≡ true
     → hart_state_of hart (sched harts machine).state ≡ reprogrammed (sched harts machine).state.shared.table (hart_state_of hart machine)
 sched_leaves hart [] machine invariant in_range others_step = reprogrammed_as_is hart machine invariant in_range
-sched_leaves hart (stepped ∷ harts) machine invariant in_range others_step =
-    let (stepped_is_other, rest_are_other) = and_parts (not (stepped == hart)) (list_all (λ stepped. not (stepped == hart)) harts) others_step in
-    let next = (step_of stepped machine).state in
-    let last = (sched harts next).state.shared.table in
-    sched_leaves hart harts next (invariant_law stepped machine invariant)
-    (subst (λ (hart_count : ℕ). hart < hart_count) (sym (step_count stepped machine)) in_range) rest_are_other
-    ∙ ap (reprogrammed last) (step_programmed stepped hart machine invariant (differs_if_test_fails stepped hart stepped_is_other) in_range)
+sched_leaves hart (stepped_hart ∷ harts) machine invariant in_range others_step =
+    let (stepped_is_other, rest_are_other) =
+    and_parts (not (stepped_hart == hart)) (list_all (λ stepped_hart. not (stepped_hart == hart)) harts) others_step in
+    let next = (step_of stepped_hart machine).state in
+    let last_table = (sched harts next).state.shared.table in
+    sched_leaves hart harts next (invariant_law stepped_hart machine invariant)
+    (subst (λ (hart_count : ℕ). hart < hart_count) (sym (step_count stepped_hart machine)) in_range) rest_are_other
+    ∙ ap (reprogrammed last_table)
+    (step_programmed stepped_hart hart machine invariant (differs_if_test_fails stepped_hart hart stepped_is_other) in_range)
 
 -- ---- a command
 

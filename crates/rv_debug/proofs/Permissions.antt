@@ -59,10 +59,11 @@ module _ (hart byte : ℕ) (machine : MonitoredMachine) (invariant : Invariant m
   host_accessible : is_accessible machine.shared.memory table Host Write (byte ∷ []) ≡ host_stores table byte
   unfolding is_accessible
   host_accessible =
-      let regions = same_any (λ slot. has (region table slot) byte)
+      -- the byte is in the region of some slot by `has` if and only if it is by `is_within`
+      let same_regions = same_any (λ slot. has (region table slot) byte)
       (λ slot. option_case (record_at table slot) false (λ info. is_within info.region byte))
       (λ slot. same_in_region (record_at table slot)) (range_with_len 0 slot_count) in
-      rw (in_ram, outside_monitor_range, regions) (drop_constants _) where
+      rw (in_ram, outside_monitor_range, same_regions) (drop_constants _) where
         -- a test with true and false added is the test
         drop_constants : (test : Bool) → ((test && true) || false) ≡ test
         drop_constants true = refl
@@ -90,12 +91,12 @@ module _ (hart byte : ℕ) (machine : MonitoredMachine) (invariant : Invariant m
 -- proves that the PMP permits exactly the stores that the world of the hart may make
 pub store_permission : StorePermissionLaw
 store_permission = record {
-  host = λ hart byte machine invariant in_range in_ram_from in_ram_to world.
+  host = λ hart byte machine invariant in_range in_ram_from in_ram_to world_is.
       permitted_if_accessible hart byte machine invariant in_range in_ram_from in_ram_to
-      ∙ ap (λ (running_world : World). is_accessible machine.shared.memory machine.shared.table running_world Write (byte ∷ [])) world
+      ∙ ap (λ (running_world : World). is_accessible machine.shared.memory machine.shared.table running_world Write (byte ∷ [])) world_is
       ∙ host_accessible hart byte machine invariant in_range in_ram_from in_ram_to;
-  enclave = λ hart byte slot machine invariant in_range in_ram_from in_ram_to world.
+  enclave = λ hart byte slot machine invariant in_range in_ram_from in_ram_to world_is.
       permitted_if_accessible hart byte machine invariant in_range in_ram_from in_ram_to
-      ∙ ap (λ (running_world : World). is_accessible machine.shared.memory machine.shared.table running_world Write (byte ∷ [])) world
+      ∙ ap (λ (running_world : World). is_accessible machine.shared.memory machine.shared.table running_world Write (byte ∷ [])) world_is
       ∙ enclave_accessible hart byte machine invariant in_range in_ram_from in_ram_to slot;
 }

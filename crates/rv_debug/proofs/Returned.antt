@@ -22,7 +22,7 @@ use Rattle.rv_debug.proofs.ScheduledSteps.{schedule_is_sched}
 sched_in_turn : (before after : List ℕ) (machine : MonitoredMachine)
     → (sched (before ++ after) machine).state ≡ (sched after (sched before machine).state).state
 sched_in_turn [] after machine = refl
-sched_in_turn (stepped ∷ before) after machine = sched_in_turn before after (step_of stepped machine).state
+sched_in_turn (stepped_hart ∷ before) after machine = sched_in_turn before after (step_of stepped_hart machine).state
 
 -- ---- effects
 

@@ -8,6 +8,7 @@ use Rattle.rv_debug.proofs.reply.push_pmp.Goals as goal
 -- after the line of PMP entry `number`, the loop invariant holds for the next entry
 pub loop-number-preserved : goal.loop-number-preserved
 loop-number-preserved c = record {
+  -- the output is the old output, the lines of the entries so far, and the line with the cfg byte and the address of this entry
   items = rw (c.push_entry.ensures.items, c.loop-number.invariant.items, c.cfg.ensures, c.addr.ensures, c.new-index.ensures)
       (flat_map-range_more _ c.args.out.now.items c.loop-number.number);
   len = omega (arith, c.push_entry.ensures.len, c.loop-number.invariant.len);

@@ -10,6 +10,7 @@ pub loop-number-preserved : goal.loop-number-preserved
 loop-number-preserved c =
     let line_length = length-register_text c.loop-number.number c.get.result (omega arith) in
     record {
+      -- the output is the old output, the lines of the registers so far, and the line with the value of this register
       items = rw (c.push_register.ensures.items, c.loop-number.invariant.items, c.get.ensures.value, c.new-register.ensures)
           (flat_map-range_more _ c.args.out.now.items c.loop-number.number);
       len = rw c.push_register.ensures.items (simp length-append (rw (c.new-register.ensures) (omega (arith, line_length))));

@@ -12,9 +12,12 @@ returns-then-place-sorted c = λ address at_or_above_from below_to.
     let is_last : c.in-Err.place ≡ length c.self.inside.sorted.items = rw c.as_slice-sorted.ensures.value at c.if-place-sorted.true in
     let member_below : 0 < c.in-Err.place → get_or c.self.inside.sorted.items (c.in-Err.place - 1) 0 < c.if-place-eq0.from =
     elim c.if-place-eq0.branch [
+      -- `place` is 0: there is no member before it
       | then-place-eq0 branch ↦ λ not_zero. absurd (omega arith)
+      -- `place` is above 0: the interval begins at the member before it + 1
       | else-place-eq0 branch ↦ λ not_zero. rw (← c.as_slice-sorted.ensures.value) (omega arith)
     ] in
+    -- no member is in the interval, if the member before `place` is below it and no member is from `place` on
     rw (← c.self.view_is)
     (gap-free _ _ _ _ _ c.self.invariant insertion.within member_below (λ in_bounds. absurd (omega arith)) at_or_above_from below_to)
 
@@ -26,7 +29,10 @@ returns-else-place-sorted c = λ address at_or_above_from below_to.
     rw c.as_slice-sorted.ensures.value at c.from-to.ensures in
     let member_below : 0 < c.in-Err.place → get_or c.self.inside.sorted.items (c.in-Err.place - 1) 0 < c.if-place-eq0.from =
     elim c.if-place-eq0.branch [
+      -- `place` is 0: there is no member before it
       | then-place-eq0 branch ↦ λ not_zero. absurd (omega arith)
+      -- `place` is above 0: the interval begins at the member before it + 1
       | else-place-eq0 branch ↦ λ not_zero. rw (← c.as_slice-sorted.ensures.value) (omega arith)
     ] in
+    -- no member is in the interval, if the member before `place` is below it and the member at `place` is at its end
     rw (← c.self.view_is) (gap-free _ _ _ _ _ c.self.invariant insertion.within member_below (λ in_bounds. omega arith) at_or_above_from below_to)
