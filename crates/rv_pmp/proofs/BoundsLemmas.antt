@@ -20,14 +20,14 @@ pub record AreWritten (ranges : EntryRanges) (bounds : List ℕ) (count number :
   pub has_33_places : length bounds ≡ 33
   -- the bound 2^35 is written
   pub not_empty : 0 < count
-  -- each range so far added at most two bounds
+  -- there is the bound 2^35, and at most two bounds for each of the first `number` ranges
   pub count_fits : count ≤ 1 + 2 * number
   -- the first bound is 2^35
   pub last : slice_index bounds 0 ≡ 2 ^ 35
-  -- the first address of each range with a byte is a bound
+  -- the first address of each of the first `number` ranges that has a byte is a bound
   pub from : (entry : ℕ) → entry < number → slice_index ranges.from entry < slice_index ranges.to entry
       → IsAmong bounds count (slice_index ranges.from entry)
-  -- the end of each range with a byte is a bound
+  -- the end of each of the first `number` ranges that has a byte is a bound
   pub to : (entry : ℕ) → entry < number → slice_index ranges.from entry < slice_index ranges.to entry
       → IsAmong bounds count (slice_index ranges.to entry)
 
@@ -73,7 +73,8 @@ module _ (ranges : EntryRanges) (bounds : List ℕ) (count number : ℕ) (so_far
       get_or-set_other (slice_set bounds count from) (count + 1) index to 0 (λ is_next. omega (arith, is_next))
       ∙ get_or-set_other bounds count index from 0 (λ is_count. omega (arith, is_count)) in
       let stays_among : (x : ℕ) → IsAmong bounds count x → IsAmong longer (count + 2) x
-      = λ x found. (found.0, omega (arith, found.1), older_same found.0 found.1 ∙ found.2) in
+      = λ x is_among. let (index, index_below_count, bound_is_x) = is_among in
+      (index, omega (arith, index_below_count), older_same index index_below_count ∙ bound_is_x) in
       record {
         has_33_places = length-set (slice_set bounds count from) (count + 1) to ∙ once_length;
         not_empty = omega arith;
@@ -91,10 +92,10 @@ module _ (ranges : EntryRanges) (bounds : List ℕ) (count number : ℕ) (so_far
 
 -- one of the first `count` bounds is in the list of these bounds
 among_taken : (bounds : List ℕ) (count x : ℕ) → count ≤ length bounds → IsAmong bounds count x → Contains (take count bounds) x
-among_taken bounds count x fits found = (
-  found.0,
-  omega (arith, found.1, length-take-le count bounds fits),
-  get_or-take count bounds found.0 x found.1 ∙ get_or_default_zero bounds found.0 x (omega (arith, found.1)) ∙ found.2,
+among_taken bounds count x fits (index, index_below_count, bound_is_x) = (
+  index,
+  omega (arith, index_below_count, length-take-le count bounds fits),
+  get_or-take count bounds index x index_below_count ∙ get_or_default_zero bounds index x (omega (arith, index_below_count)) ∙ bound_is_x,
 )
 
 -- after all sixteen ranges, both ends of each range with a byte are among the bounds
@@ -106,7 +107,8 @@ all_bounds_written ranges bounds count number count_fits all_ranges so_far = rec
   last = among_taken bounds count _ count_fits (0, so_far.not_empty, so_far.last);
 }
 
--- the ranges of the entries with one more range, which has the bytes that its entry covers
+-- if the first `number` ranges have the bytes that their entries cover, and the range `from` to `to` has those that the entry `number` covers,
+-- then the first `number + 1` ranges have them after this range was set
 pub one_more_range : (entries : Entries) (ranges : EntryRanges) (number from to : ℕ) → number < length ranges.from → number < length ranges.to
     → ((entry byte : ℕ) → entry < number → covers entries entry byte ≡ is_within ranges entry byte)
     → ((byte : ℕ) → covers entries number byte ≡ (nat_le from byte && nat_lt byte to)) → (entry byte : ℕ) → entry < number + 1

@@ -55,9 +55,8 @@ pub record IsByteMatch (covering : ℕ → ℕ → Bool) (byte entry : ℕ) : Ty
 pub matched_by : (covering : ℕ → ℕ → Bool) (byte entry : ℕ) → byte_match covering byte ≡ Some entry → IsByteMatch covering byte entry
 unfolding byte_match
 matched_by covering byte entry byte_match_is = elim (find_cases (λ lower. covering lower byte) 0 16) [
-  | inl found ↦
-      let found_is_entry : found.0 ≡ entry = cc in
-      let is_first = found.2 in
+  | inl (number, number_is_found, is_first) ↦
+      let found_is_entry : number ≡ entry = cc in
       record {
         in_range = omega (arith, is_first.high);
         has = ap (λ lower. covering lower byte) (sym found_is_entry) ∙ is_first.passes;
@@ -71,7 +70,7 @@ pub unmatched : (covering : ℕ → ℕ → Bool) (byte : ℕ) → byte_match co
 unfolding byte_match
 unmatched covering byte byte_match_is lower below_16 = elim (find_cases (λ entry. covering entry byte) 0 16) [
   | inl found ↦ cc
-  | inr none_found ↦ none_found.1 lower (omega arith) (omega arith)
+  | inr (none_is_found, no_entry_covers) ↦ no_entry_covers lower (omega arith) (omega arith)
 ]
 
 -- the matching entry of a byte is the same by the ranges of the entries and by the definition

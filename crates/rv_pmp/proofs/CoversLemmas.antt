@@ -18,7 +18,8 @@ same_quotient size quotient byte positive = (
       let from_start = div-mul-le_self byte size in
       let before_next : byte < byte / size * size + size = lt-div-mul-add positive in
       (rw (← quotient_is) from_start, rw (← quotient_is) before_next),
-  λ in_interval. eq-eqb _ _ (div-eq_of_lt-le size in_interval.0 (omega (arith, in_interval.1))),
+  λ in_interval. let (from_multiple, before_next_multiple) = in_interval in
+      eq-eqb _ _ (div-eq_of_lt-le size from_multiple (omega (arith, before_next_multiple))),
 )
 
 -- the trailing ones of a number are the trailing zeros of its complement (by induction over the bits: the lowest bits differ)

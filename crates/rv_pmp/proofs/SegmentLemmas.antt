@@ -151,20 +151,20 @@ both_or_neither : (from to start end byte : ℕ) → start ≤ byte → byte < e
 both_or_neither from to start end byte from_start before_end from_apart to_apart =
     bool_same (nat_le from byte && nat_lt byte to) (nat_le from start && nat_lt start to)
     (λ has_byte.
-    let bounds = and_both (nat_le from byte) (nat_lt byte to) has_byte in
-    let above : from ≤ byte = leb-true _ _ bounds.0 in
-    let below : byte < to = ltb-true _ _ bounds.1 in
+    let (from_test_holds, to_test_holds) = and_both (nat_le from byte) (nat_lt byte to) has_byte in
+    let from_at_most_byte : from ≤ byte = leb-true _ _ from_test_holds in
+    let byte_below_to : byte < to = ltb-true _ _ to_test_holds in
     elim (from_apart (omega arith)) [
-      | inl not_above_start ↦ and_from _ _ (le-leb from start not_above_start) (lt-ltb start to (omega arith))
-      | inr not_below_end ↦ absurd (omega arith)
+      | inl from_up_to_start ↦ and_from _ _ (le-leb from start from_up_to_start) (lt-ltb start to (omega arith))
+      | inr from_at_or_past_end ↦ absurd (omega arith)
     ])
     (λ has_start.
-    let bounds = and_both (nat_le from start) (nat_lt start to) has_start in
-    let above : from ≤ start = leb-true _ _ bounds.0 in
-    let below : start < to = ltb-true _ _ bounds.1 in
+    let (from_test_holds, to_test_holds) = and_both (nat_le from start) (nat_lt start to) has_start in
+    let from_at_most_start : from ≤ start = leb-true _ _ from_test_holds in
+    let start_below_to : start < to = ltb-true _ _ to_test_holds in
     elim (to_apart (omega arith)) [
-      | inl not_above_start ↦ absurd (omega arith)
-      | inr not_below_end ↦ and_from _ _ (le-leb from byte (omega arith)) (lt-ltb byte to (omega arith))
+      | inl to_up_to_start ↦ absurd (omega arith)
+      | inr to_at_or_past_end ↦ and_from _ _ (le-leb from byte (omega arith)) (lt-ltb byte to (omega arith))
     ])
 
 -- The first `split` bounds are at most `start`, and the others are at least `end`. All bytes from `start` to `end` have the same matching entry.
@@ -175,11 +175,12 @@ module _ (ranges : EntryRanges) (bounds : List ℕ) (start end split : ℕ) (are
   -- no bound is between `start` and `end`
   no_bound_between : (x : ℕ) → Contains bounds x → (x ≤ start) ⊎ (end ≤ x)
   no_bound_between x is_bound =
-      let index = is_bound.0 in
-      let bound_is : slice_index bounds index ≡ x = sym (get_or_default_zero bounds index x is_bound.1) ∙ is_bound.2 in
+      -- x is the bound with this index, which is among the first `split` bounds or after them
+      let (index, index_in_bounds, element_is_x) = is_bound in
+      let bound_is : slice_index bounds index ≡ x = sym (get_or_default_zero bounds index x index_in_bounds) ∙ element_is_x in
       elim (cases_lt index split) [
-        | inl is_before ↦ inl (omega (arith, bound_is, bounds_before index is_before))
-        | inr is_after ↦ inr (omega (arith, bound_is, bounds_after index (omega arith) is_bound.1))
+        | inl index_before_split ↦ inl (omega (arith, bound_is, bounds_before index index_before_split))
+        | inr index_from_split ↦ inr (omega (arith, bound_is, bounds_after index (omega arith) index_in_bounds))
       ]
 
   -- all bytes between two neighbouring bounds have the same matching entry
@@ -192,11 +193,12 @@ module _ (ranges : EntryRanges) (bounds : List ℕ) (start end split : ℕ) (are
   -- if all bounds are among the first `split`, `start` is at least 2^35, which is one of the bounds
   pub start_past_bounds : length bounds ≤ split → 2 ^ 35 ≤ start
   start_past_bounds none_after = elim (no_bound_between (2 ^ 35) are_bounds.last) [
-    | inl is_past ↦ is_past
-    | inr end_not_past ↦
-        let is_bound = are_bounds.last in
-        let last_is_2_35 = get_or_default_zero bounds is_bound.0 (2 ^ 35) is_bound.1 in
-        omega (arith, bounds_before is_bound.0 (omega (arith, is_bound.1)), last_is_2_35, is_bound.2)
+    | inl last_bound_up_to_start ↦ last_bound_up_to_start
+    | inr end_up_to_last_bound ↦
+        -- 2^35 is a bound, and each bound is among the first `split`, so it is at most `start`
+        let (index, index_in_bounds, element_is_2_35) = are_bounds.last in
+        let same_element = get_or_default_zero bounds index (2 ^ 35) index_in_bounds in
+        omega (arith, bounds_before index (omega (arith, index_in_bounds)), same_element, element_is_2_35)
   ]
 
 -- ---- the segment that has a byte
@@ -242,21 +244,23 @@ pub at_segment : (segments : Segments) (byte segment : ℕ) → segments.count �
     → IsSegment segments byte segment
 at_segment segments byte segment ends_fit byte_below_reach segment_bound is_point =
     let taken_length = length-take-le segments.count segments.ends ends_fit in
+    let (earlier_ends_not_past, later_ends_past) = is_point in
     -- all ends before the segment are at most the byte, and its own end is past the byte
     let ends_before : (index : ℕ) → index < segment → slice_index segments.ends index ≤ byte
     = λ index index_before. leb-true _ _
     (rw (get_or-take segments.count segments.ends index 0 (omega (arith, index_before, segment_bound, taken_length))) at
-    (is_point.0 index 0 (omega arith) index_before)) in
+    (earlier_ends_not_past index 0 (omega arith) index_before)) in
     let starts_before : start_of segments segment ≤ byte = elim (cases_eq segment 0) [
       | inl is_first ↦ rw is_first (omega arith)
       | inr not_first ↦ let positive : 0 < segment = omega arith in
           omega (arith, begin_after segments.ends segment positive, ends_before (segment - 1) (omega (arith, positive)))
     ] in
     let is_used : segment < segments.count = elim (cases_lt segment segments.count) [
-      | inl is_below ↦ is_below
+      | inl segment_below_count ↦ segment_below_count
       | inr not_below ↦ let is_count : segment ≡ segments.count = omega (arith, not_below, segment_bound, taken_length) in
           absurd (omega (arith, byte_below_reach, rw is_count at starts_before))
     ] in
     let ends_after : leb (slice_index segments.ends segment) byte ≡ false =
-    rw (get_or-take segments.count segments.ends segment 0 is_used) at (is_point.1 segment 0 (omega arith) (omega (arith, is_used, taken_length))) in
+    rw (get_or-take segments.count segments.ends segment 0 is_used) at
+    (later_ends_past segment 0 (omega arith) (omega (arith, is_used, taken_length))) in
     record { used = is_used; from = starts_before; to = leb-false _ _ ends_after }

@@ -75,9 +75,9 @@ some_from_any test start zero passes = absurd (both_ways false refl passes)
 some_from_any test start (suc count) passes = elim (cases_Bool (test start)) [
   | inl start_passes ↦ (start, omega arith, omega arith, start_passes)
   | inr start_fails ↦
-      let found = some_from_any test (start + 1) count
+      let (number, from_next, before_end, number_passes) = some_from_any test (start + 1) count
       (sym (or_of_false (test start) (list_any test (range_with_len (start + 1) count)) start_fails) ∙ passes) in
-      (found.0, omega (arith, found.1), omega (arith, found.2), found.3)
+      (number, omega (arith, from_next), omega (arith, before_end), number_passes)
 ]
 
 -- if `all` fails, some number of the interval does not satisfy the test
@@ -86,9 +86,9 @@ pub some_from_all : (test : ℕ → Bool) (start count : ℕ) → list_all test 
 some_from_all test start zero fails = absurd (both_ways true fails refl)
 some_from_all test start (suc count) fails = elim (cases_Bool (test start)) [
   | inl start_passes ↦
-      let found = some_from_all test (start + 1) count
+      let (number, from_next, before_end, number_fails) = some_from_all test (start + 1) count
       (sym (and_of_true (test start) (list_all test (range_with_len (start + 1) count)) start_passes) ∙ fails) in
-      (found.0, omega (arith, found.1), omega (arith, found.2), found.3)
+      (number, omega (arith, from_next), omega (arith, before_end), number_fails)
   | inr start_fails ↦ (start, omega arith, omega arith, start_fails)
 ]
 
@@ -144,9 +144,9 @@ find_cases test start (suc count) = elim (cases_Bool (test start)) [
     },
   )
   | inr start_fails ↦ elim (find_cases test (start + 1) count) [
-    | inl later ↦ let is_first = later.2 in inl (
-      later.0,
-      cond-false (test start) _ _ start_fails ∙ later.1,
+    | inl (number, find_in_rest, is_first) ↦ inl (
+      number,
+      cond-false (test start) _ _ start_fails ∙ find_in_rest,
       record {
         low = omega (arith, is_first.low);
         high = omega (arith, is_first.high);
@@ -157,11 +157,11 @@ find_cases test start (suc count) = elim (cases_Bool (test start)) [
         ];
       },
     )
-    | inr none_later ↦ inr (
-      cond-false (test start) _ _ start_fails ∙ none_later.0,
+    | inr (none_found_in_rest, rest_fails) ↦ inr (
+      cond-false (test start) _ _ start_fails ∙ none_found_in_rest,
       λ number from_start before_end. elim (cases_eq start number) [
         | inl is_start ↦ ap test (sym is_start) ∙ start_fails
-        | inr not_start ↦ none_later.1 number (omega arith) (omega arith)
+        | inr not_start ↦ rest_fails number (omega arith) (omega arith)
       ],
     )
   ]
