@@ -37,17 +37,18 @@ no_fault_in : (fault : List Reading → Reading → Option AsmFaultKind) (before
     → (first_line_fault fault before prefix ≡ None) × (first_line_fault fault (before ++ prefix) after ≡ None)
 no_fault_in fault before [] after no_error = (refl, rw (append-nil before) no_error)
 no_fault_in fault before (line ∷ prefix) after no_error =
-    let first_and_rest = no_fault_first fault before (prefix ++ after) line no_error in
-    let prefix_and_after = no_fault_in fault (before ++ line ∷ []) prefix after first_and_rest.1 in
-    (rw first_and_rest.0 prefix_and_after.0, rw (← append_assoc before (line ∷ []) prefix) prefix_and_after.1)
+    let (line_has_none, others_have_none) = no_fault_first fault before (prefix ++ after) line no_error in
+    let (prefix_has_none, after_has_none) = no_fault_in fault (before ++ line ∷ []) prefix after others_have_none in
+    (rw line_has_none prefix_has_none, rw (← append_assoc before (line ∷ []) prefix) after_has_none)
 
 -- if the lines of a text have no error, neither a line nor the lines before it have one
 no_fault_at : (fault : List Reading → Reading → Option AsmFaultKind) (all_lines before after : List Reading) (line : Reading)
     → all_lines ≡ before ++ line ∷ after → first_line_fault fault [] all_lines ≡ None
     → (first_line_fault fault [] before ≡ None) × (fault before line ≡ None)
 no_fault_at fault all_lines before after line is_split no_error =
-    let parts = no_fault_in fault [] before (line ∷ after) (rw is_split at no_error) in
-    (parts.0, (no_fault_first fault before after line parts.1).0)
+    let (before_has_none, from_line_has_none) = no_fault_in fault [] before (line ∷ after) (rw is_split at no_error) in
+    let (line_has_none, after_has_none) = no_fault_first fault before after line from_line_has_none in
+    (before_has_none, line_has_none)
 
 -- the words of two lists of lines are the words of the first, followed by the words of the second
 words_from-append : (labels : List ℕ → Option ℕ) (before prefix after : List Reading)
@@ -62,10 +63,10 @@ length-words_from : (labels : List ℕ → Option ℕ) (before lines : List Read
     → length (words_from labels before lines) ≡ words_in lines
 length-words_from labels before [] no_error = refl
 length-words_from labels before (line ∷ lines) no_error =
-    let first_and_rest = no_fault_first (name_fault labels) before lines line no_error in
+    let (line_has_none, others_have_none) = no_fault_first (name_fault labels) before lines line no_error in
     let first_words = line_words labels (words_in before) line in
-    let same_length = length-line_words labels (words_in before) line (words_or_none first_words) (ok_words first_words first_and_rest.0) in
-    let rest_length = length-words_from labels (before ++ line ∷ []) lines first_and_rest.1 in
+    let same_length = length-line_words labels (words_in before) line (words_or_none first_words) (ok_words first_words line_has_none) in
+    let rest_length = length-words_from labels (before ++ line ∷ []) lines others_have_none in
     length-append (words_or_none first_words) (words_from labels (before ++ line ∷ []) lines)
     ∙ ap₂ (λ first others. first + others) same_length rest_length ∙ sym (sum_by-cons line_size line lines)
 
@@ -82,12 +83,13 @@ words_at_address : (labels : List ℕ → Option ℕ) (all_lines before after : 
     → line_words labels (words_in before) line ≡ Ok (take (line_size line) (drop (words_in before) (words_from labels [] all_lines)))
 words_at_address labels all_lines before after line is_split no_error =
     let own_words = line_words labels (words_in before) line in
-    let no_errors = no_fault_at (name_fault labels) all_lines before after line is_split no_error in
-    let is_ok = ok_words own_words no_errors.1 in
+    let (before_has_none, line_has_none) = no_fault_at (name_fault labels) all_lines before after line is_split no_error in
+    let is_ok = ok_words own_words line_has_none in
+    -- the words of all lines are those of the lines before, those of the line, and those of the lines after
     let part_is =
     second_of_three (words_in before) (line_size line) (words_from labels [] before) (words_or_none own_words)
     (words_from labels (before ++ line ∷ []) after)
-    (length-words_from labels [] before no_errors.0) (length-line_words labels (words_in before) line (words_or_none own_words) is_ok) in
+    (length-words_from labels [] before before_has_none) (length-line_words labels (words_in before) line (words_or_none own_words) is_ok) in
     is_ok ∙ ap Ok (sym part_is) ∙ ap (λ words. Ok (take (line_size line) (drop (words_in before) words)))
     (sym (ap (words_from labels []) is_split ∙ words_from-append labels [] before (line ∷ after)))
 
@@ -99,8 +101,8 @@ address_of_label : (all_lines before after : List Reading) (line : Line) (name :
     → place_in all_lines name ≡ option_case (place_in before name) (Some (words_in before)) Some
 address_of_label all_lines before after line name is_split has_name =
     ap (λ lines. place_in lines name) is_split ∙ place_from-append [] before (Ok line ∷ after) name
-    ∙ rw (has_name, (bytes_eq-Decides name name).1 refl)
-    refl
+    -- the line has the label `name`, and the name equals itself
+    ∙ rw (has_name, (let (equal_if_test, test_if_equal) = bytes_eq-Decides name name in test_if_equal refl)) refl
 
 -- a label that is not repeated has no address before its line
 no_earlier_address : (before : List Reading) (line : Line) (name : List ℕ) → line.label ≡ Some name → label_fault before (Ok line) ≡ None
@@ -121,14 +123,14 @@ FoundIn all_lines name place =
 -- a label that passes the test `is_label` for a name is this name
 label_is : (name : List ℕ) (label : Option (List ℕ)) → is_label name label ≡ true → label ≡ Some name
 label_is name None test_holds = cc
-label_is name (Some label) test_holds = ap Some ((bytes_eq-Decides label name).0 test_holds)
+label_is name (Some label) test_holds = let (equal_if_test, test_if_equal) = bytes_eq-Decides label name in ap Some (equal_if_test test_holds)
 
 -- a label that a line defines is found there, with the address of the line
-found_here : (all_lines before lines : List Reading) (line : Reading) (name : List ℕ) (place : ℕ) → all_lines ≡ before ++ line ∷ lines
+label_of_this_line : (all_lines before lines : List Reading) (line : Reading) (name : List ℕ) (place : ℕ) → all_lines ≡ before ++ line ∷ lines
     → has_label name line ≡ true → place ≡ words_in before → FoundIn all_lines name place
-found_here all_lines before lines (Ok line) name place is_split has_it is_address =
-    (before, line, (lines, is_split), label_is name line.label has_it, is_address)
-found_here all_lines before lines (Err kind) name place is_split has_it is_address = cc
+label_of_this_line all_lines before lines (Ok line) name place is_split line_has_label place_is =
+    (before, line, (lines, is_split), label_is name line.label line_has_label, place_is)
+label_of_this_line all_lines before lines (Err kind) name place is_split line_has_label place_is = cc
 
 -- If an address is found, it is the address here or that of another line. A claim P therefore holds if it follows from each of the two.
 found_either : {P : Type 0} (is_own : Bool) (own_place place : ℕ) (others : Option ℕ) → (is_own ≡ true → place ≡ own_place → P)
@@ -144,7 +146,7 @@ label_found : (all_lines before lines : List Reading) (name : List ℕ) (place :
 label_found all_lines before [] name place is_split place_from_is = cc
 label_found all_lines before (line ∷ lines) name place is_split place_from_is =
     found_either (has_label name line) (words_in before) place (place_from (before ++ line ∷ []) lines name)
-    (found_here all_lines before lines line name place is_split)
+    (label_of_this_line all_lines before lines line name place is_split)
     (label_found all_lines (before ++ line ∷ []) lines name place (is_split ∙ sym (append_assoc before (line ∷ []) lines))) place_from_is
 
 -- ---- the assembled words are words that the text denotes
@@ -158,9 +160,9 @@ both_none (Some fault) second choice_is = cc
 no_faults : (lines : List Reading) → fault_in lines ≡ None
     → (first_line_fault label_fault [] lines ≡ None) × (first_line_fault (name_fault (place_in lines)) [] lines ≡ None)
 no_faults lines no_error =
-    both_none (first_line_fault label_fault [] lines) (first_line_fault (name_fault (place_in lines)) [] lines)
-    (both_none (first_line_fault own_fault [] lines)
-    (option_case (first_line_fault label_fault [] lines) (first_line_fault (name_fault (place_in lines)) [] lines) Some) no_error).1
+    let (no_own_fault, no_label_or_name_fault) = both_none (first_line_fault own_fault [] lines)
+    (option_case (first_line_fault label_fault [] lines) (first_line_fault (name_fault (place_in lines)) [] lines) Some) no_error in
+    both_none (first_line_fault label_fault [] lines) (first_line_fault (name_fault (place_in lines)) [] lines) no_label_or_name_fault
 
 -- if a choice between an error and words is Ok, there is no error, and the words are these
 words_if : (error : Option AsmFault) (made words : List ℕ) → option_case error (Ok made) Err ≡ Ok words → (error ≡ None) × (made ≡ words)
@@ -172,29 +174,31 @@ denotes_words_of : (text : List ℕ) → fault_in (readings text) ≡ None → D
 denotes_words_of text no_error =
     let lines = readings text in
     let labels = place_in lines in
-    let no_errors = no_faults lines no_error in
+    let (none_repeated, no_name_fault) = no_faults lines no_error in
     record {
       labels = labels;
       -- the address of a label is that of its line, since no earlier line has the label
       placed = λ before line name line_in_text has_name.
-          let no_earlier = no_earlier_address before line name has_name (no_fault_at label_fault lines before line_in_text.0 (Ok line) line_in_text.1
-          no_errors.0).1 in
-          address_of_label lines before line_in_text.0 line name line_in_text.1 has_name
+          let (after, is_split) = line_in_text in
+          let (before_has_none, not_repeated_here) = no_fault_at label_fault lines before after (Ok line) is_split none_repeated in
+          let no_earlier = no_earlier_address before line name has_name not_repeated_here in
+          address_of_label lines before after line name is_split has_name
           ∙ ap (λ (earlier : Option ℕ). option_case earlier (Some (words_in before)) Some) no_earlier;
       -- each label with an address is the label of a line
       named = λ name place has_name. label_found lines [] lines name place refl has_name;
       -- the words of each line are at its address
-      each = λ before line line_in_text. words_at_address labels lines before line_in_text.0 line line_in_text.1 no_errors.1;
+      each = λ before line line_in_text. let (after, is_split) = line_in_text in
+          words_at_address labels lines before after line is_split no_name_fault;
       -- there are no other words
-      whole = length-words_from labels [] lines no_errors.1;
+      whole = length-words_from labels [] lines no_name_fault;
     }
 
 -- if a text assembles to words, it denotes these words
 pub denotes_assembled : (text words : List ℕ) → assembled text ≡ Ok words → Denotes text words
 unfolding assembled
 denotes_assembled text words assembled_is =
-    let no_fault_and_words = words_if (fault_in (readings text)) (words_of_lines (readings text)) words assembled_is in
-    rw (← no_fault_and_words.1) (denotes_words_of text no_fault_and_words.0)
+    let (no_error, words_are) = words_if (fault_in (readings text)) (words_of_lines (readings text)) words assembled_is in
+    rw (← words_are) (denotes_words_of text no_error)
 
 -- ---- the text denotes no other words
 
@@ -218,8 +222,8 @@ same_place text words denotes name =
     let (before, line, line_in_text, has_name, address_is) = label_found (readings text) [] (readings text) name place refl place_is in
     denotes.placed before line name line_in_text has_name ∙ ap Some (sym address_is))
     (λ place named_is.
-    let (before, line, line_in_text, has_name, address_is) = denotes.named name place named_is in
-    ap is_some (address_of_label (readings text) before line_in_text.0 line name line_in_text.1 has_name)
+    let (before, line, (after, is_split), has_name, address_is) = denotes.named name place named_is in
+    ap is_some (address_of_label (readings text) before after line name is_split has_name)
     ∙ option_case-is_some (place_in before name) (words_in before))
 
 -- a part of a list and the part after it are one part

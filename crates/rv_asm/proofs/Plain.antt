@@ -64,15 +64,16 @@ meets_none test text plain_fails are_plain =
 list_all-reverse : (text : List ℕ) → list_all is_plain text ≡ true → list_all is_plain (reverse text) ≡ true
 list_all-reverse [] are_plain = refl
 list_all-reverse (byte ∷ text) are_plain =
-    let parts = and_parts (is_plain byte) (list_all is_plain text) are_plain in
+    let (byte_is_plain, others_are_plain) = and_parts (is_plain byte) (list_all is_plain text) are_plain in
     ap (list_all is_plain) (reverse_onto text byte []) ∙ list_all-append is_plain (reverse text) (byte ∷ [])
-    ∙ and_from _ _ (list_all-reverse text parts.1) (and_from _ _ parts.0 refl)
+    ∙ and_from _ _ (list_all-reverse text others_are_plain) (and_from _ _ byte_is_plain refl)
 
 -- a plain text has no leading blanks to remove
 after_blanks-plain : (text : List ℕ) → list_all is_plain text ≡ true → after_blanks text ≡ text
 after_blanks-plain [] are_plain = refl
 after_blanks-plain (byte ∷ text) are_plain =
-    let not_blank = is_plain-blank byte (and_parts (is_plain byte) (list_all is_plain text) are_plain).0 in
+    let (byte_is_plain, others_are_plain) = and_parts (is_plain byte) (list_all is_plain text) are_plain in
+    let not_blank = is_plain-blank byte byte_is_plain in
     rw not_blank refl
 
 -- a text that begins with a plain byte has no leading blanks to remove
@@ -128,14 +129,15 @@ split-spaced : (first : List ℕ) (more : List (List ℕ)) → IsPiece first →
 split-spaced first [] first_is_piece are_pieces =
     ap (λ text. slice_split (λ byte. byte == comma) (space ∷ text)) (append-nil first) ∙ slice_split_none (λ byte. byte == comma) (space ∷ first)
     (no_comma first first_is_piece.plain)
-split-spaced first (next ∷ more) first_is_piece are_pieces =
+split-spaced first (next ∷ more) first_is_piece (next_is_piece, others_are_pieces) =
     slice_split_at (λ byte. byte == comma) (space ∷ first) comma (spaced next more) (no_comma first first_is_piece.plain) refl
-    ∙ ap (λ parts. (space ∷ first) ∷ parts) (split-spaced next more are_pieces.0 are_pieces.1)
+    ∙ ap (λ parts. (space ∷ first) ∷ parts) (split-spaced next more next_is_piece others_are_pieces)
 
 -- pieces with a space before each are trimmed to the pieces
 trimmed-all : (texts : List (List ℕ)) → ArePieces texts → map trimmed (map (λ text. space ∷ text) texts) ≡ texts
 trimmed-all [] are_pieces = refl
-trimmed-all (text ∷ texts) are_pieces = rw (trimmed-padded text are_pieces.0.plain, trimmed-all texts are_pieces.1) refl
+trimmed-all (text ∷ texts) (text_is_piece, others_are_pieces) =
+    rw (trimmed-padded text text_is_piece.plain, trimmed-all texts others_are_pieces) refl
 
 -- the fields between the commas of `spaced`, without blanks, are the operands
 fields_of-spaced : (first : List ℕ) (more : List (List ℕ)) → IsPiece first → ArePieces more → comma_fields (spaced first more) ≡ first ∷ more
@@ -147,8 +149,8 @@ fields_of-spaced first more first_is_piece are_pieces = ap (map trimmed) (split-
 pub operands_of-spaced : (first : List ℕ) (more : List (List ℕ)) → IsPiece first → ArePieces more → operands_in (spaced first more) ≡ first ∷ more
 operands_of-spaced [] more first_is_piece are_pieces = absurd (omega (arith, first_is_piece.some))
 operands_of-spaced (byte ∷ first) more first_is_piece are_pieces =
-    let not_empty = trimmed-some byte (first ++ flat_map (λ operand. codes ", " ++ operand) more)
-    (and_parts (is_plain byte) (list_all is_plain first) first_is_piece.plain).0 in
+    let (byte_is_plain, others_are_plain) = and_parts (is_plain byte) (list_all is_plain first) first_is_piece.plain in
+    let not_empty = trimmed-some byte (first ++ flat_map (λ operand. codes ", " ++ operand) more) byte_is_plain in
     all_fields (length (trimmed (spaced (byte ∷ first) more))) not_empty ∙ fields_of-spaced (byte ∷ first) more first_is_piece are_pieces
   where
     -- a text that is not empty without its blanks has all its comma fields as operands

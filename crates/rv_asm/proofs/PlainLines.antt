@@ -44,23 +44,23 @@ line_byte-other byte other other_not_in_line is_in_line = false_from_ne_true (by
 are_text : (line : List ℕ) → list_all is_line_byte line ≡ true → list_all is_text line ≡ true
 are_text [] are_line_bytes = refl
 are_text (byte ∷ line) are_line_bytes =
-    let parts = and_parts (is_line_byte byte) (list_all is_line_byte line) are_line_bytes in
-    and_from _ _ (line_byte-text byte parts.0) (are_text line parts.1)
+    let (byte_is_in_line, others_are_in_line) = and_parts (is_line_byte byte) (list_all is_line_byte line) are_line_bytes in
+    and_from _ _ (line_byte-text byte byte_is_in_line) (are_text line others_are_in_line)
 
 -- ---- one line
 
 -- a text of bytes of a line is one line, since it has no line feed (10) and no carriage return (13)
 pub one_line : (byte : ℕ) (line : List ℕ) → list_all is_line_byte (byte ∷ line) ≡ true → lines_of (byte ∷ line) ≡ (byte ∷ line) ∷ []
 one_line byte [] are_line_bytes =
-    let parts = and_parts (is_line_byte byte) true are_line_bytes in
-    let no_feed = line_byte-other byte line_feed refl parts.0 in
-    let no_return = line_byte-other byte carriage_return refl parts.0 in
+    let (byte_is_in_line, no_others) = and_parts (is_line_byte byte) true are_line_bytes in
+    let no_feed = line_byte-other byte line_feed refl byte_is_in_line in
+    let no_return = line_byte-other byte carriage_return refl byte_is_in_line in
     rw (no_feed, no_return) refl
 one_line byte (next ∷ line) are_line_bytes =
-    let parts = and_parts (is_line_byte byte) (list_all is_line_byte (next ∷ line)) are_line_bytes in
-    let no_feed = line_byte-other byte line_feed refl parts.0 in
-    let no_return = line_byte-other byte carriage_return refl parts.0 in
-    rw (no_feed, no_return) (ap (onto_first byte) (one_line next line parts.1))
+    let (byte_is_in_line, others_are_in_line) = and_parts (is_line_byte byte) (list_all is_line_byte (next ∷ line)) are_line_bytes in
+    let no_feed = line_byte-other byte line_feed refl byte_is_in_line in
+    let no_return = line_byte-other byte carriage_return refl byte_is_in_line in
+    rw (no_feed, no_return) (ap (onto_first byte) (one_line next line others_are_in_line))
 
 -- ---- no comment, and no label
 
@@ -69,9 +69,9 @@ none_found : (other : ℕ) (line : List ℕ) → ((byte : ℕ) → is_line_byte 
     → position_or_len (λ byte. byte == other) line ≡ length line
 none_found other [] differs are_line_bytes = refl
 none_found other (byte ∷ line) differs are_line_bytes =
-    let parts = and_parts (is_line_byte byte) (list_all is_line_byte line) are_line_bytes in
-    let not_first = differs byte parts.0 in
-    rw not_first (omega (arith, none_found other line differs parts.1))
+    let (byte_is_in_line, others_are_in_line) = and_parts (is_line_byte byte) (list_all is_line_byte line) are_line_bytes in
+    let not_first = differs byte byte_is_in_line in
+    rw not_first (omega (arith, none_found other line differs others_are_in_line))
 
 -- a line has no comment, since it has no `#` (35)
 uncommented : (line : List ℕ) → list_all is_line_byte line ≡ true → before_comment line ≡ line

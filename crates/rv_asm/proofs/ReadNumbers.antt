@@ -24,7 +24,8 @@ use Rattle.rv_disassembler.proofs.HexTexts.{one_digit, two_digits, three_digits,
 -- the digits of a base pass the test `is_digit`
 list_all-digits : (base : ℕ) (text : List ℕ) → AllDigits base text → list_all (λ byte. is_digit byte base) text ≡ true
 list_all-digits base [] are_digits = refl
-list_all-digits base (byte ∷ text) are_digits = and_from _ _ (digit_passes are_digits.0) (list_all-digits base text are_digits.1)
+list_all-digits base (byte ∷ text) (byte_is_digit, others_are_digits) =
+    and_from _ _ (digit_passes byte_is_digit) (list_all-digits base text others_are_digits)
   where
     -- a digit whose value is below the base passes the test of a digit
     digit_passes : digit_value byte < base → is_digit byte base ≡ true
@@ -43,16 +44,16 @@ and_false false = refl
 digits-no_hex : (text : List ℕ) → AllDigits 10 text → starts_with nat_eq text (codes "0x") ≡ false
 digits-no_hex [] are_digits = refl
 digits-no_hex (byte ∷ []) are_digits = and_false (nat_eq 48 byte)
-digits-no_hex (byte ∷ digit ∷ text) are_digits =
-    let is_decimal = digit_between digit are_digits.1.0 in
+digits-no_hex (byte ∷ digit ∷ text) (byte_is_digit, (second_is_digit, others_are_digits)) =
+    let is_decimal = digit_between digit second_is_digit in
     let no_x : nat_eq 120 digit ≡ false = grind (arith, nat_tests, is_decimal) in
     rw no_x (and_false (nat_eq 48 byte))
 
 -- decimal digits do not begin with a minus, because no digit is a minus (45)
 digits-no_minus : (text : List ℕ) → AllDigits 10 text → starts_with nat_eq text (codes "-") ≡ false
 digits-no_minus [] are_digits = refl
-digits-no_minus (byte ∷ text) are_digits =
-    let is_decimal = digit_between byte are_digits.0 in
+digits-no_minus (byte ∷ text) (byte_is_digit, others_are_digits) =
+    let is_decimal = digit_between byte byte_is_digit in
     let no_minus_sign : nat_eq 45 byte ≡ false = grind (arith, nat_tests, is_decimal) in
     rw no_minus_sign refl
 
@@ -62,16 +63,16 @@ digits-no_minus (byte ∷ text) are_digits =
 decimal_digits-decimal : (number : ℕ) → number < 2 ^ 64 → decimal_digits (decimal number) ≡ Some number
 unfolding decimal_digits
 decimal_digits-decimal number fits_64_bits =
-    let numeral = decimal_is_IsNumeral number fits_64_bits in
-    let all_digits = list_all-digits 10 (decimal number) numeral.0.1 in
-    let not_empty : nat_lt 0 (length (decimal number)) ≡ true = grind (arith, nat_tests, numeral.0.0) in
-    rw (not_empty, all_digits, numeral.1) (ap Some (omega (arith, fits_64_bits)))
+    let ((some_digits, are_digits), value_is) = decimal_is_IsNumeral number fits_64_bits in
+    let all_digits = list_all-digits 10 (decimal number) are_digits in
+    let not_empty : nat_lt 0 (length (decimal number)) ≡ true = grind (arith, nat_tests, some_digits) in
+    rw (not_empty, all_digits, value_is) (ap Some (omega (arith, fits_64_bits)))
 
 -- the decimal text of a number is read as the number
 pub written-decimal : (number : ℕ) → number < 2 ^ 64 → written_number (decimal number) ≡ Some (plus number)
 unfolding written_number
 written-decimal number fits_64_bits =
-    let are_digits = (decimal_is_IsNumeral number fits_64_bits).0.1 in
+    let ((some_digits, are_digits), digits_value_is) = decimal_is_IsNumeral number fits_64_bits in
     let no_hex = digits-no_hex (decimal number) are_digits in
     let no_minus = digits-no_minus (decimal number) are_digits in
     let value_is = decimal_digits-decimal number fits_64_bits in

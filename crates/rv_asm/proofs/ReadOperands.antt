@@ -156,20 +156,20 @@ is_signed byte = nat_le 45 byte && nat_le byte 57
 -- decimal digits pass the test `is_signed`
 are_signed : (text : List ℕ) → AllDigits 10 text → list_all is_signed text ≡ true
 are_signed [] are_digits = refl
-are_signed (byte ∷ text) are_digits =
-    let is_decimal = digit_between byte are_digits.0 in
-    and_from _ _ (grind (arith, nat_tests, is_decimal)) (are_signed text are_digits.1)
+are_signed (byte ∷ text) (byte_is_digit, others_are_digits) =
+    let is_decimal = digit_between byte byte_is_digit in
+    and_from _ _ (grind (arith, nat_tests, is_decimal)) (are_signed text others_are_digits)
 
 -- bytes that pass the test `is_signed` are plain
 signed-plain : (text : List ℕ) → list_all is_signed text ≡ true → list_all is_plain text ≡ true
 signed-plain [] are_signed_bytes = refl
 signed-plain (byte ∷ text) are_signed_bytes =
-    let parts = and_parts (is_signed byte) (list_all is_signed text) are_signed_bytes in
-    and_from _ _ (signed_is_plain parts.0) (signed-plain text parts.1)
+    let (byte_is_signed, others_are_signed) = and_parts (is_signed byte) (list_all is_signed text) are_signed_bytes in
+    and_from _ _ (signed_is_plain byte_is_signed) (signed-plain text others_are_signed)
   where
-    -- a byte of a signed number is plain
+    -- a byte that passes the test `is_signed` is plain
     signed_is_plain : is_signed byte ≡ true → is_plain byte ≡ true
-    signed_is_plain is_one = grind (arith, nat_tests)
+    signed_is_plain byte_is_signed = grind (arith, nat_tests)
 
 -- the text of a signed number: it has 1 to 9 bytes (a minus and 8 digits) that pass the test `is_signed`, and is no name of a label
 pub record IsSignedText (text : List ℕ) : Type 0 where
@@ -186,8 +186,8 @@ pub record IsSignedText (text : List ℕ) : Type 0 where
 digits-no_name : (text : List ℕ) → AllDigits 10 text → is_name text ≡ false
 unfolding is_name
 digits-no_name [] are_digits = refl
-digits-no_name (byte ∷ text) are_digits =
-    let is_decimal = digit_between byte are_digits.0 in
+digits-no_name (byte ∷ text) (byte_is_digit, others_are_digits) =
+    let is_decimal = digit_between byte byte_is_digit in
     let no_lower_case : nat_le 97 byte ≡ false = grind (arith, nat_tests, is_decimal) in
     let no_upper_case : nat_le 65 byte ≡ false = grind (arith, nat_tests, is_decimal) in
     let no_underscore : (byte == low_line) ≡ false = grind (arith, nat_tests, is_decimal) in
@@ -197,18 +197,18 @@ digits-no_name (byte ∷ text) are_digits =
 -- the decimal text of a number below 10 ^ 8 is the text of a signed number
 signed-decimal : (number : ℕ) → number < 10 ^ 8 → IsSignedText (decimal number)
 signed-decimal number has_8_digits =
-    let (not_empty, digits) = (decimal_is_IsNumeral number (omega (arith, has_8_digits))).0 in
-    let length_is = length-decimal-le 8 number (omega arith) has_8_digits (omega (arith, has_8_digits)) in
-    let no_name = digits-no_name (decimal number) digits in
-    record { not_empty = not_empty; short = omega (arith, length_is); signed = are_signed (decimal number) digits; no_name = no_name }
+    let ((not_empty, are_digits), value_is) = decimal_is_IsNumeral number (omega (arith, has_8_digits)) in
+    let at_most_8_bytes = length-decimal-le 8 number (omega arith) has_8_digits (omega (arith, has_8_digits)) in
+    let no_name = digits-no_name (decimal number) are_digits in
+    record { not_empty = not_empty; short = omega (arith, at_most_8_bytes); signed = are_signed (decimal number) are_digits; no_name = no_name }
 
 -- a minus (45) and the decimal text of a number below 10 ^ 8 are the text of a signed number
 signed-minus : (number : ℕ) → number < 10 ^ 8 → IsSignedText (45 ∷ decimal number)
 unfolding is_name
 signed-minus number has_8_digits =
-    let numeral = (decimal_is_IsNumeral number (omega (arith, has_8_digits))).0 in
-    let length_is = length-decimal-le 8 number (omega arith) has_8_digits (omega (arith, has_8_digits)) in
-    record { not_empty = omega arith; short = omega (arith, length_is); signed = are_signed (decimal number) numeral.1; no_name = refl }
+    let ((not_empty, are_digits), value_is) = decimal_is_IsNumeral number (omega (arith, has_8_digits)) in
+    let at_most_8_bytes = length-decimal-le 8 number (omega arith) has_8_digits (omega (arith, has_8_digits)) in
+    record { not_empty = omega arith; short = omega (arith, at_most_8_bytes); signed = are_signed (decimal number) are_digits; no_name = refl }
 
 -- the text of a signed field is the text of a signed number
 signed_text-signed : (width field : ℕ) → field < 10 ^ 8 → 2 ^ width < 10 ^ 8 → IsSignedText (signed_text width field)
@@ -265,14 +265,14 @@ piece-base number below_32 = (
 pub piece-address : (offset base : ℕ) → offset < 2 ^ 12 → base < 32 → IsPiece (address_text offset base)
 piece-address offset base offset_fits base_below_32 =
     let offset_is = signed_text-signed 12 offset (omega (arith, offset_fits)) (omega arith) in
-    let base_is = piece-base base base_below_32 in
-    let base_is_short : length (base_text base) ≤ 5 = grind (arith, nat_tests, base_is.1) in
+    let (base_is_plain, base_length_test, base_is_read) = piece-base base base_below_32 in
+    let base_is_short : length (base_text base) ≤ 5 = grind (arith, nat_tests, base_length_test) in
     let piece : IsPiece (signed_text 12 offset ++ base_text base) = record {
       some = omega (arith, offset_is.not_empty, length-append (signed_text 12 offset) (base_text base));
       short = omega (arith, offset_is.short, base_is_short, length-append (signed_text 12 offset) (base_text base));
       plain =
           list_all-append is_plain (signed_text 12 offset) (base_text base)
-          ∙ and_from _ _ (signed-plain (signed_text 12 offset) offset_is.signed) base_is.0;
+          ∙ and_from _ _ (signed-plain (signed_text 12 offset) offset_is.signed) base_is_plain;
     } in
     subst IsPiece (sym (address-parts offset base)) piece
 
@@ -280,13 +280,13 @@ piece-address offset base offset_fits base_below_32 =
 opening-signed : (prefix back : List ℕ) → list_all is_signed prefix ≡ true → opening (prefix ++ left_parenthesis ∷ back) ≡ length prefix
 opening-signed [] back is_signed_prefix = refl
 opening-signed (byte ∷ prefix) back is_signed_prefix =
-    let parts = and_parts (is_signed byte) (list_all is_signed prefix) is_signed_prefix in
-    let no_parenthesis : (byte == left_parenthesis) ≡ false = signed_differs parts.0 in
-    rw no_parenthesis (omega (arith, opening-signed prefix back parts.1))
+    let (byte_is_signed, others_are_signed) = and_parts (is_signed byte) (list_all is_signed prefix) is_signed_prefix in
+    let no_parenthesis : (byte == left_parenthesis) ≡ false = signed_differs byte_is_signed in
+    rw no_parenthesis (omega (arith, opening-signed prefix back others_are_signed))
   where
     -- a byte that passes the test `is_signed` is not an opening parenthesis (40)
     signed_differs : is_signed byte ≡ true → (byte == left_parenthesis) ≡ false
-    signed_differs is_one = grind (arith, nat_tests)
+    signed_differs byte_is_signed = grind (arith, nat_tests)
 
 -- an address is read as its offset and its base register, if these are read from the parts before and after the parenthesis
 address_of-parts : (prefix back : List ℕ) (offset : _) (base : ℕ) → list_all is_signed prefix ≡ true → written_number prefix ≡ Some offset
@@ -301,12 +301,13 @@ pub read-address : (offset base : ℕ) → offset < 2 ^ 12 → base < 32 → add
 read-address offset base offset_fits base_below_32 =
     let offset_is = signed_text-signed 12 offset (omega (arith, offset_fits)) (omega arith) in
     let number_is = written-signed 12 offset (omega (arith, offset_fits)) (omega arith) in
-    let parts_found =
+    let (base_is_plain, base_length_test, base_is_read) = piece-base base base_below_32 in
+    let parts_are_read =
     address_of-parts (signed_text 12 offset) (register_operand_text base ++ codes ")") (signed_number 12 offset) base offset_is.signed number_is
-    (piece-base base base_below_32).2 in
-    ap address_operand (address-parts offset base) ∙ by_parts parts_found
+    base_is_read in
+    ap address_operand (address-parts offset base) ∙ by_parts parts_are_read
   where
     -- an operand whose parts are read as an offset and a base register is read as both
     by_parts : offset_and_base (signed_text 12 offset ++ base_text base) ≡ Some (signed_number 12 offset, base)
         → address_operand (signed_text 12 offset ++ base_text base) ≡ Ok (signed_number 12 offset, base)
-    by_parts parts_found = rw parts_found refl
+    by_parts parts_are_read = rw parts_are_read refl

@@ -41,8 +41,8 @@ use Rattle.rv_asm.proofs.ReadOperands.{piece-hex_text, read-hex_text, read-csr, 
 line-plain : (text : List ℕ) → list_all is_plain text ≡ true → list_all is_line_byte text ≡ true
 line-plain [] are_plain = refl
 line-plain (byte ∷ text) are_plain =
-    let parts = and_parts (is_plain byte) (list_all is_plain text) are_plain in
-    and_from _ _ (plain_in_line (is_plain byte) parts.0) (line-plain text parts.1)
+    let (byte_is_plain, others_are_plain) = and_parts (is_plain byte) (list_all is_plain text) are_plain in
+    and_from _ _ (plain_in_line (is_plain byte) byte_is_plain) (line-plain text others_are_plain)
   where
     -- a byte is a byte of a line if it is plain, which the test `is_plain_byte` states (44 is a comma, and 32 a space)
     plain_in_line : (is_plain_byte : Bool) → is_plain_byte ≡ true → (is_plain_byte || byte == comma || byte == space) ≡ true
@@ -52,15 +52,20 @@ line-plain (byte ∷ text) are_plain =
 -- the commas, spaces and pieces after the first operand are bytes of a line
 line-commas : (more : List (List ℕ)) → ArePieces more → list_all is_line_byte (flat_map (λ operand. codes ", " ++ operand) more) ≡ true
 line-commas [] are_pieces = refl
-line-commas (first ∷ more) are_pieces =
+line-commas (first ∷ more) (first_is_piece, others_are_pieces) =
     list_all-append is_line_byte first (flat_map (λ operand. codes ", " ++ operand) more)
-    ∙ and_from _ _ (line-plain first are_pieces.0.plain) (line-commas more are_pieces.1)
+    ∙ and_from _ _ (line-plain first first_is_piece.plain) (line-commas more others_are_pieces)
 
 -- each comma with its space and its piece has at most 22 bytes
 length-commas : (more : List (List ℕ)) → ArePieces more → length (flat_map (λ operand. codes ", " ++ operand) more) ≤ 22 * length more
 length-commas [] are_pieces = omega arith
-length-commas (first ∷ more) are_pieces =
-    omega (arith, are_pieces.0.short, length-commas more are_pieces.1, length-append first (flat_map (λ operand. codes ", " ++ operand) more))
+length-commas (first ∷ more) (first_is_piece, others_are_pieces) =
+    omega (
+      arith,
+      first_is_piece.short,
+      length-commas more others_are_pieces,
+      length-append first (flat_map (λ operand. codes ", " ++ operand) more),
+    )
 
 -- a name and its operands are bytes of a line
 line-spaced : (name first : List ℕ) (more : List (List ℕ)) → IsPiece name → IsPiece first → ArePieces more
@@ -99,7 +104,7 @@ line_is_read [] first more statement name_is_piece first_is_piece are_pieces at_
 line_is_read (byte ∷ name) first more statement name_is_piece first_is_piece are_pieces at_most_3 statement_at_is =
     let are_line_bytes = line-spaced (byte ∷ name) first more name_is_piece first_is_piece are_pieces in
     let short = length-spaced (byte ∷ name) first more name_is_piece first_is_piece are_pieces at_most_3 in
-    let first_is_plain = (and_parts (is_plain byte) (list_all is_plain name) name_is_piece.plain).0 in
+    let (first_is_plain, others_are_plain) = and_parts (is_plain byte) (list_all is_plain name) name_is_piece.plain in
     record {
       is_one_line = one_line byte (name ++ spaced first more) are_line_bytes;
       is_read = line_at-plain byte (name ++ spaced first more) statement first_is_plain are_line_bytes short statement_at_is;
@@ -142,29 +147,29 @@ pub assembled-instr_text : (instr : Instr) → IsInstr instr → is_told_by_oper
 unfolding instr_text line_read is_text label_text statement_text statement_at mnemonics is_name is_name_byte trimmed
 -- `lui rd, n`: n is the hexadecimal text of the upper 20 bits of the immediate
 assembled-instr_text (Lui rd imm) fields is_determined =
-    let (rd_fits, imm_is) = fields in
-    let imm_fits : imm / 2 ^ 12 < 2 ^ 20 = omega (arith, imm_is.0) in
+    let (rd_fits, (imm_fits_32_bits, imm_low_bits_are_0)) = fields in
+    let upper_fits : imm / 2 ^ 12 < 2 ^ 20 = omega (arith, imm_fits_32_bits) in
     let rd_read = read-register rd rd_fits in
-    let number_read = read-hex_text (imm / 2 ^ 12) imm_fits in
-    let imm_read = upper-plus imm imm_is.0 imm_is.1 in
-    assembled-line (Lui rd imm) _ (piece-register rd rd_fits) (piece-hex_text (imm / 2 ^ 12) imm_fits, tt) (omega arith)
+    let number_read = read-hex_text (imm / 2 ^ 12) upper_fits in
+    let imm_read = upper-plus imm imm_fits_32_bits imm_low_bits_are_0 in
+    assembled-line (Lui rd imm) _ (piece-register rd rd_fits) (piece-hex_text (imm / 2 ^ 12) upper_fits, tt) (omega arith)
     (rw (rd_read, number_read, imm_read) refl)
 -- `auipc rd, n`, in the same form
 assembled-instr_text (Auipc rd imm) fields is_determined =
-    let (rd_fits, imm_is) = fields in
-    let imm_fits : imm / 2 ^ 12 < 2 ^ 20 = omega (arith, imm_is.0) in
+    let (rd_fits, (imm_fits_32_bits, imm_low_bits_are_0)) = fields in
+    let upper_fits : imm / 2 ^ 12 < 2 ^ 20 = omega (arith, imm_fits_32_bits) in
     let rd_read = read-register rd rd_fits in
-    let number_read = read-hex_text (imm / 2 ^ 12) imm_fits in
-    let imm_read = upper-plus imm imm_is.0 imm_is.1 in
-    assembled-line (Auipc rd imm) _ (piece-register rd rd_fits) (piece-hex_text (imm / 2 ^ 12) imm_fits, tt) (omega arith)
+    let number_read = read-hex_text (imm / 2 ^ 12) upper_fits in
+    let imm_read = upper-plus imm imm_fits_32_bits imm_low_bits_are_0 in
+    assembled-line (Auipc rd imm) _ (piece-register rd rd_fits) (piece-hex_text (imm / 2 ^ 12) upper_fits, tt) (omega arith)
     (rw (rd_read, number_read, imm_read) refl)
 -- `jal rd, offset`: the offset has 21 bits and is even
 assembled-instr_text (Jal rd offset) fields is_determined =
-    let (rd_fits, offset_is) = fields in
-    let offset_has_8_digits : offset < 10 ^ 8 = omega (arith, offset_is.0) in
+    let (rd_fits, (offset_fits_21_bits, offset_is_even)) = fields in
+    let offset_has_8_digits : offset < 10 ^ 8 = omega (arith, offset_fits_21_bits) in
     let rd_read = read-register rd rd_fits in
     let target_read = read-target 21 offset offset_has_8_digits (omega arith) in
-    let offset_read = jump_offset-signed offset offset_is.0 offset_is.1 in
+    let offset_read = jump_offset-signed offset offset_fits_21_bits offset_is_even in
     assembled-line (Jal rd offset) _ (piece-register rd rd_fits) (piece-signed 21 offset offset_has_8_digits (omega arith), tt) (omega arith)
     (rw (rd_read, target_read, offset_read) refl)
 -- `jalr rd, offset(rs1)`
@@ -177,12 +182,12 @@ assembled-instr_text (Jalr rd rs1 offset) fields is_determined =
     (rw (rd_read, address_read, offset_read) refl)
 -- `beq rs1, rs2, offset` and the other branches: the offset has 13 bits and is even
 assembled-instr_text (Branch kind rs1 rs2 offset) fields is_determined =
-    let (rs1_fits, rs2_fits, offset_is) = fields in
-    let offset_has_8_digits : offset < 10 ^ 8 = omega (arith, offset_is.0) in
+    let (rs1_fits, rs2_fits, (offset_fits_13_bits, offset_is_even)) = fields in
+    let offset_has_8_digits : offset < 10 ^ 8 = omega (arith, offset_fits_13_bits) in
     let rs1_read = read-register rs1 rs1_fits in
     let rs2_read = read-register rs2 rs2_fits in
     let target_read = read-target 13 offset offset_has_8_digits (omega arith) in
-    let offset_read = branch_offset-signed offset offset_is.0 offset_is.1 in
+    let offset_read = branch_offset-signed offset offset_fits_13_bits offset_is_even in
     assembled-line (Branch kind rs1 rs2 offset) _ (piece-register rs1 rs1_fits)
     (piece-register rs2 rs2_fits, (piece-signed 13 offset offset_has_8_digits (omega arith), tt)) (omega arith)
     (rw (rs1_read, rs2_read, target_read, offset_read) refl)

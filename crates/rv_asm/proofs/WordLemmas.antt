@@ -152,8 +152,7 @@ module _ {labels : List ℕ → Option ℕ} {words : List ℕ} {lines : ℕ} {te
       ⊎ ((kind ≡ NoMemory) × (first_line_fault (name_fault labels) [] (take (lines + 1) (readings text)) ≡ None)
       × (words_in (take (lines + 1 - 1) (readings text)) < words_in (take (lines + 1) (readings text))))
   fails_or_out_of_memory kind (inl line_fails) = inl (fails_at kind line_fails)
-  fails_or_out_of_memory kind (inr out_of_memory) =
-      inr (out_of_memory.0, no_fault_through out_of_memory.1, words_through out_of_memory.2)
+  fails_or_out_of_memory kind (inr (is_no_memory, words_are_ok, has_word)) = inr (is_no_memory, no_fault_through words_are_ok, words_through has_word)
 
   -- the number of the next line is at most the number of lines of the text
   pub is_line_of : lines + 1 ≤ length (readings text)

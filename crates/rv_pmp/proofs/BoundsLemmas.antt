@@ -107,8 +107,8 @@ all_bounds_written ranges bounds count number count_fits all_ranges so_far = rec
   last = among_taken bounds count _ count_fits (0, so_far.not_empty, so_far.last);
 }
 
--- if the first `number` ranges have the bytes that their entries cover, and the range `from` to `to` has those that the entry `number` covers,
--- then the first `number + 1` ranges have them after this range was set
+-- After the range of the entry `number` was set to the bytes that the entry covers, the first `number + 1` ranges have the bytes that their entries
+-- cover. (The first `number` ranges had them before.)
 pub one_more_range : (entries : Entries) (ranges : EntryRanges) (number from to : ℕ) → number < length ranges.from → number < length ranges.to
     → ((entry byte : ℕ) → entry < number → covers entries entry byte ≡ is_within ranges entry byte)
     → ((byte : ℕ) → covers entries number byte ≡ (nat_le from byte && nat_lt byte to)) → (entry byte : ℕ) → entry < number + 1

@@ -15,7 +15,7 @@ pub returns-in-None : goal.returns-in-None
 unfolding comma_fields
 returns-in-None c =
     -- the iterator yields the parts between the commas (`from_slice_split`), each without its blanks (`from_map_by`)
-    let all_yielded =
+    let (yielded_are_fields, yields_end) =
     YieldsList-end (YieldsList-at c.into_iter-field-iterator.ensures.into_iter_gives
     (YieldsList-from_map_by _ (λ x. x.now) trimmed
     (YieldsList-at c.map-field-items.ensures.source
@@ -23,7 +23,7 @@ returns-in-None c =
     (λ x b q k. search rules))) c.map-field-items.ensures.closure (λ x b q k. search rules))) c.loop-field.yielded _
     c.loop-field.yielded_by _ _ c.in-None.is c.next.ensures.steps in
     let at_most_4 : length c.loop-field.yielded ≤ 4 = omega (arith, ap length c.loop-field.invariant.so_far, c.loop-field.invariant.at_most_4) in
-    rw c.loop-field.invariant.so_far (grind (arith, common_steps, all_yielded.0, all_yielded.1, at_most_4))
+    rw c.loop-field.invariant.so_far (grind (arith, common_steps, yielded_are_fields, yields_end, at_most_4))
 
 -- if four fields were taken, they are the first four fields of the text
 pub returns-then-is_full : goal.returns-then-is_full
