@@ -40,8 +40,10 @@ with_one_more false earlier words no_earlier = sym (option_case-some earlier)
 pub adds_new : (places : List ℕ → Option ℕ) (name other : List ℕ) (words : ℕ) → is_some (places name) ≡ false
     → cond (bytes_eq name other) (Some words) (places other) ≡ option_case (places other) (cond (bytes_eq name other) (Some words) None) Some
 adds_new places name other words is_absent =
+    let (equal_if_test, test_if_equal) = bytes_eq-Decides name other in
+    -- if the other name is this name, the map does not have it
     with_one_more (bytes_eq name other) (places other) words
-    (λ same_name. sym (ap places ((bytes_eq-Decides name other).0 same_name)) ∙ none_from_is_some (places name) is_absent)
+    (λ same_name. sym (ap places (equal_if_test same_name)) ∙ none_from_is_some (places name) is_absent)
 
 -- ---- one more line
 

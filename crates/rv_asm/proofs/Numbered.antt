@@ -31,9 +31,10 @@ looked_up-in_range : (limit : ℕ) (rows : List (List ℕ × ℕ)) (name : List 
     → IfSome (looked_up rows name) (λ other. other < limit)
 looked_up-in_range limit [] name all_below = tt
 looked_up-in_range limit ((known, number) ∷ rows) name all_below =
-    let first_and_rest = and_both _ _ all_below in
-    first_in_range limit number (bytes_eq name known) (find (λ row. bytes_eq name row.0) rows) known (lt_of_test number limit first_and_rest.0)
-    (looked_up-in_range limit rows name first_and_rest.1)
+    let (first_below, others_below) = and_both _ _ all_below in
+    -- the row that is found has this name and number, or is a later row
+    first_in_range limit number (bytes_eq name known) (find (λ row. bytes_eq name row.0) rows) known (lt_of_test number limit first_below)
+    (looked_up-in_range limit rows name others_below)
 
 -- a register that is found by its name has a number up to 31
 pub registers_in_range : (name : List ℕ) (number : ℕ) → looked_up registers name ≡ Some number → number ≤ 31

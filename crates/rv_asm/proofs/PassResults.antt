@@ -29,8 +29,8 @@ later_or_here : (before count longer : ℕ) (own_kind : Option AsmFaultKind) (re
     → (rest ≡ Some found → IsWithin longer count found) → option_case own_kind rest (λ kind. Some (fault_after before kind)) ≡ Some found
     → IsWithin before (count + 1) found
 later_or_here before count longer None rest found one_more later choice_is =
-    let bounds = later choice_is in
-    (omega (arith, bounds.0, one_more), omega (arith, bounds.1, one_more))
+    let (after_longer, within_count) = later choice_is in
+    (omega (arith, after_longer, one_more), omega (arith, within_count, one_more))
 later_or_here before count longer (Some kind) rest found one_more later choice_is =
     let is_here : fault_after before kind ≡ found = cc in
     let line_is : before + 1 ≡ found.line = ap (λ fault. fault.line) is_here in
@@ -41,11 +41,11 @@ fault_line : (fault : List Reading → Reading → Option AsmFaultKind) (before 
     → first_line_fault fault before lines ≡ Some found → IsWithin (length before) (length lines) found
 fault_line fault before [] found first_line_fault_is = cc
 fault_line fault before (line ∷ lines) found first_line_fault_is =
-    let bounds =
+    let (after_before, within_lines) =
     later_or_here (length before) (length lines) (length (before ++ line ∷ [])) (fault before line)
     (first_line_fault fault (before ++ line ∷ []) lines) found (length-append before (line ∷ []))
     (fault_line fault (before ++ line ∷ []) lines found) first_line_fault_is in
-    (bounds.0, omega (arith, bounds.1))
+    (after_before, omega (arith, within_lines))
 
 -- if a line has an error of its own, the text has the first such error
 pub own_decides : (text : List ℕ) (fault : AsmFault) → first_line_fault own_fault [] (readings text) ≡ Some fault → assembled text ≡ Err fault
@@ -65,8 +65,9 @@ twice_decides text pass line has_read no_own_fault is_repeated =
 pub twice_line : (text : List ℕ) (pass : FirstPass) (line : ℕ) → HasRead pass (readings text) → pass.repeated ≡ Some line
     → (1 ≤ line) × (line ≤ length (lines_of text))
 twice_line text pass line has_read is_repeated =
-    let bounds = fault_line label_fault [] (readings text) (label_twice line) (has_read.repeated ∙ ap (option_map label_twice) is_repeated) in
-    (omega (arith, bounds.0), omega (arith, bounds.1, length-readings text))
+    let (from_1, within_lines) =
+    fault_line label_fault [] (readings text) (label_twice line) (has_read.repeated ∙ ap (option_map label_twice) is_repeated) in
+    (omega (arith, from_1), omega (arith, within_lines, length-readings text))
 
 -- if no label is repeated, no line has the error of a repeated label
 not_twice : (text : List ℕ) (pass : FirstPass) → HasRead pass (readings text) → pass.repeated ≡ None
@@ -101,9 +102,9 @@ pub words_decide_if : {Z : Type 0} (text : List ℕ) (pass : FirstPass) (result 
     → first_line_fault own_fault [] (readings text) ≡ None → pass.repeated ≡ None
     → IfOk result (λ words. (words.items ≡ words_from (places_of pass.labels) [] (readings text))
     × (first_line_fault (name_fault (places_of pass.labels)) [] (readings text) ≡ None)) → IfOk result (λ words. assembled text ≡ Ok words.items)
-words_decide_if text pass (Ok words) has_read no_own_fault not_repeated words_and_no_fault = words_decide text pass words.items has_read no_own_fault
-    not_repeated words_and_no_fault.1 words_and_no_fault.0
-words_decide_if text pass (Err fault) has_read no_own_fault not_repeated words_and_no_fault = tt
+words_decide_if text pass (Ok words) has_read no_own_fault not_repeated (words_are, no_name_fault) =
+    words_decide text pass words.items has_read no_own_fault not_repeated no_name_fault words_are
+words_decide_if text pass (Err fault) has_read no_own_fault not_repeated nothing_to_prove = tt
 
 -- the first pass fails because a line has an error of its own, or because memory is exhausted
 pub own_fails : (text : List ℕ) (fault : AsmFault)
@@ -120,10 +121,10 @@ pub name_fails_if : {A : Type 0} (text : List ℕ) (pass : FirstPass) (result : 
 name_fails_if text pass (Ok words) has_read no_own_fault not_repeated has_fault = tt
 name_fails_if text pass (Err fault) has_read no_own_fault not_repeated (inl has_name_fault) =
     inl (name_decides text pass fault has_read no_own_fault not_repeated has_name_fault)
-name_fails_if text pass (Err fault) has_read no_own_fault not_repeated (inr out_of_memory) = inr (inr (record {
-  memory = out_of_memory.0;
-  some = out_of_memory.2;
+name_fails_if text pass (Err fault) has_read no_own_fault not_repeated (inr (is_no_memory, no_name_fault_through, line_has_word)) = inr (inr (record {
+  memory = is_no_memory;
+  some = line_has_word;
   own = no_own_fault;
   labels = not_twice text pass has_read not_repeated;
-  names = ap (λ labels. first_line_fault (name_fault labels) [] (take fault.line (readings text))) (sym has_read.labels) ∙ out_of_memory.1;
+  names = ap (λ labels. first_line_fault (name_fault labels) [] (take fault.line (readings text))) (sym has_read.labels) ∙ no_name_fault_through;
 }))

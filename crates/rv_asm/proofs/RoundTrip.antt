@@ -302,8 +302,8 @@ assembled-word_text word fits_32_bits =
 -- the disassembly of a word that encodes an instruction assembles to the word: it is the text of the instruction, or else `.word`
 assembled-encoding : (word : ℕ) (instr : Instr) (is_determined : Bool) → is_told_by_operands instr ≡ is_determined → word < 2 ^ 32
     → Encodes word instr → assembled (if is_determined then instr_text instr else word_text word) ≡ Ok (word ∷ [])
-assembled-encoding word instr true test_is fits_32_bits is_encoding = assembled-instr_text instr is_encoding.0 test_is
-    ∙ ap (λ encoded. Ok (encoded ∷ [])) is_encoding.1
+assembled-encoding word instr true test_is fits_32_bits (is_instr, word_is_encoding) =
+    assembled-instr_text instr is_instr test_is ∙ ap (λ encoded. Ok (encoded ∷ [])) word_is_encoding
 assembled-encoding word instr false test_is fits_32_bits is_encoding = assembled-word_text word fits_32_bits
 
 -- the disassembly of a word assembles to the word, whether or not the word encodes an instruction

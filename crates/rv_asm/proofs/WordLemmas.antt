@@ -61,14 +61,14 @@ writes_on labels words new added lines text rest after line so_far lines_are wor
     let read_line = line_read line in
     let rest_is : readings rest ≡ read_line ∷ readings after = ap (map line_read) lines_are in
     -- neither the line nor the lines after it have an error of their own
-    let line_and_rest =
+    let (line_has_none, others_have_none) =
     no_fault (own_fault so_far.before read_line) (fault_after (length so_far.before)) (first_line_fault own_fault (so_far.before ++ read_line ∷ [])
     (readings after))
     (rw rest_is at so_far.no_own_fault) in
     -- the words of the lines so far and of the line are the words of both
     let word_sum : words_in (so_far.before ++ read_line ∷ []) ≡ words_in so_far.before + line_size read_line =
     sum_by_push line_size so_far.before read_line in
-    let now_within_limit = stays_within_limit so_far.before read_line line_and_rest.0 in
+    let now_within_limit = stays_within_limit so_far.before read_line line_has_none in
     let line_words_are : line_words labels (words_in so_far.before) read_line ≡ Ok added = rw (← so_far.word_count) words_are in
     record {
       before = so_far.before ++ read_line ∷ [];
@@ -77,7 +77,7 @@ writes_on labels words new added lines text rest after line so_far lines_are wor
       within_limit = omega (arith, now_within_limit, word_sum);
       is_split = so_far.is_split ∙ ap (λ others. so_far.before ++ others) rest_is
           ∙ sym (append_assoc so_far.before (read_line ∷ []) (readings after));
-      no_own_fault = line_and_rest.1;
+      no_own_fault = others_have_none;
       fault_in_rest =
           so_far.fault_in_rest ∙ ap (first_line_fault (name_fault labels) so_far.before) rest_is
           ∙ fault_later (name_fault labels) so_far.before (readings after) read_line (rw line_words_are refl);

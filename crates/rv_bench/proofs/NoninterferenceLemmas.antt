@@ -68,11 +68,13 @@ module _ (enclave : ℕ) where
       (is_live_in enclave first.target) refl
       -- while the enclave is live, the first line has equal replies and leaves equivalent benches, and so do the other lines
       (λ live.
-      let (reply, next_equiv) = line_alike first second line first_invariant second_invariant equiv (avoid_enclave live).0 (avoid_hart live).0 in
+      let (avoids_enclave, others_avoid_enclave) = avoid_enclave live in
+      let (avoids_hart, others_avoid_hart) = avoid_hart live in
+      let (same_reply, next_equiv) = line_alike first second line first_invariant second_invariant equiv avoids_enclave avoids_hart in
       let other_lines = lines_alike (execute_line first line).state (execute_line second line).state lines
       (line_keeps_invariant first line first_invariant) (line_keeps_invariant second line second_invariant) next_equiv
-      (avoid_enclave live).1 (avoid_hart live).1 in
-      record { text = ap₂ (λ (one others : List ℕ). one ++ others) reply other_lines.text; state = other_lines.state })
+      others_avoid_enclave others_avoid_hart in
+      record { text = ap₂ (λ (one others : List ℕ). one ++ others) same_reply other_lines.text; state = other_lines.state })
       -- if the enclave is not live, the benches are equal
       (λ invariant.
       let end = state_after bench_line first (line ∷ lines) in
@@ -110,9 +112,10 @@ module _ (enclave : ℕ) where
       → LinesAvoidEnclave enclave bench lines → LinesAvoidHart enclave bench lines
   lines_avoid_hart bench [] invariant not_running avoid_enclave = tt
   lines_avoid_hart bench (line ∷ lines) invariant not_running avoid_enclave = λ live.
-      let (avoids_hart, still_not_running) = line_leaves_on_no_hart bench line invariant not_running (avoid_enclave live).0 in
+      let (avoids_enclave, others_avoid_enclave) = avoid_enclave live in
+      let (avoids_hart, still_not_running) = line_leaves_on_no_hart bench line invariant not_running avoids_enclave in
       let next_invariant = line_keeps_invariant bench line invariant in
-      (avoids_hart, lines_avoid_hart (execute_line bench line).state lines next_invariant still_not_running (avoid_enclave live).1)
+      (avoids_hart, lines_avoid_hart (execute_line bench line).state lines next_invariant still_not_running others_avoid_enclave)
 
   -- ---- lines that poke into its region
 
@@ -159,11 +162,11 @@ module _ (enclave : ℕ) where
   secrets_alike first second (line ∷ lines) [] first_invariant second_invariant equiv avoid_hart impossible = absurd impossible
   secrets_alike first second (line ∷ lines) (other ∷ others) first_invariant second_invariant equiv (avoids_hart, others_avoid_hart)
       (poke_or_pass, others_differ) =
-      let (reply, next_equiv) = poke_or_pass_alike first second line other first_invariant second_invariant equiv avoids_hart poke_or_pass in
+      let (same_reply, next_equiv) = poke_or_pass_alike first second line other first_invariant second_invariant equiv avoids_hart poke_or_pass in
       let other_lines = secrets_alike (execute_line first line).state (execute_line second other).state lines others
       (line_keeps_invariant first line first_invariant) (line_keeps_invariant second other second_invariant) next_equiv
       others_avoid_hart others_differ in
-      record { text = ap₂ (λ (one other : List ℕ). one ++ other) reply other_lines.text; equiv = other_lines.equiv }
+      record { text = ap₂ (λ (one other : List ℕ). one ++ other) same_reply other_lines.text; equiv = other_lines.equiv }
 
   -- after a poke the enclave still runs on no hart
   poke_leaves_on_no_hart : (bench : BenchState) (line : List ℕ) → TargetInvariant bench.target → RunsOnNoHart enclave bench.target

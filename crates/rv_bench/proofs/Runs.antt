@@ -103,7 +103,7 @@ module _ {A : Type 0} {responder : Responding A} {end : ScriptEnd} {start : A} {
   pub StopsAtWrite-prefix : {remaining new : List ℕ} → StopsAtWrite responder end start unread remaining old new
       → WritesPrefix old new (replies responder.respond start (script_lines end (lines_of unread)))
   StopsAtWrite-prefix {remaining = remaining} stops =
-      let (unwritten, (prefix, wrote, reply_is)) = stops.written in
+      let (unwritten, (prefix, wrote_prefix, reply_is)) = stops.written in
       let (following, script_is) = script_lines-prefix end (lines_of stops.text) (lines_of remaining) in
       let read = script_lines end (lines_of stops.text) in
       let before = replies responder.respond start stops.responded in
@@ -115,7 +115,7 @@ module _ {A : Type 0} {responder : Responding A} {end : ScriptEnd} {start : A} {
         unwritten ++ others,
         (
           before ++ prefix,
-          wrote ∙ append_assoc old before prefix,
+          wrote_prefix ∙ append_assoc old before prefix,
           -- all replies are the replies to the lines that were read, and then the replies to the lines after them
           ap (λ lines. replies responder.respond start (script_lines end lines)) stops.all_lines
               ∙ (ap (replies responder.respond start) script_is
@@ -138,7 +138,8 @@ module _ {A : Type 0} {responder : Responding A} {end : ScriptEnd} {start : A} {
   next_response =
       let line = next.takes.line in
       let same_significant = sym (ap (take significant_bytes) next.takes.prefix ∙ take-take significant_bytes significant_bytes line (lit≤ tt)) in
-      ap (λ state. responder.respond state line) (sym next.so_far.state) ∙ (next.responds.1 line same_significant ∙ next.responds.0)
+      let (response_to_shown, same_response) = next.responds in
+      ap (λ state. responder.respond state line) (sym next.so_far.state) ∙ (same_response line same_significant ∙ response_to_shown)
 
   -- the responder was not over before the line
   pub RespondsToNext-not_over : responder.is_over (state_after responder.respond start next.so_far.lines) ≡ false

@@ -41,9 +41,9 @@ use Rattle.rv_bench.proofs.Starts.{StartInvariant, bench_in_invariant}
 use Rattle.rv_bench.proofs.RepliesLemmas.{state_after-append}
 use Rattle.rv_bench.proofs.IntegrityLemmas.{lines_keep_invariant, stream_integrity}
 
--- `with_line` is the result of a line whose command had this result on both benches
-abbrev with_line : BothExecuted → BothLine → BothLineExecuted
-with_line executed line =
+-- `line_executed` is the result of a line whose command had this result on both benches
+abbrev line_executed : BothExecuted → BothLine → BothLineExecuted
+line_executed executed line =
     record { first = executed.first; second = executed.second; first_reply = executed.first_reply; second_reply = executed.second_reply; line = line }
 
 module _ (slot : ℕ) where
@@ -108,10 +108,11 @@ module _ (slot : ℕ) where
           first_invariant = command_keeps_invariant first command first_invariant;
           second_invariant = command_keeps_invariant second command second_invariant;
           alike_if_executed = λ not_entered.
-              let stays = on_no_hart_law slot first command first_invariant together.1 in
+              let (equiv, not_running) = together in
+              let stays = on_no_hart_law slot first command first_invariant not_running in
               let AlikeFor : BothWhy → Type 0 = λ why. AlikeBy slot first second command (both_executed first second command) why in
-              let passed = subst AlikeFor not_entered (alike together.0 stays.by) in
-              (passed.reply, ((let state = passed.state in state.but), stays.not_running (first_not_entered _ _ not_entered)));
+              let executed_alike = subst AlikeFor not_entered (alike equiv stays.by) in
+              (executed_alike.reply, ((let state = executed_alike.state in state.but), stays.not_running (first_not_entered _ _ not_entered)));
           together_if_blocked = λ is_blocked. absurd (executed_is_not_blocked _ is_blocked);
           first_state = state_after_command _ first command;
           second_state = state_after_command _ second command;
@@ -140,13 +141,17 @@ module _ (slot : ℕ) where
   -- `of_command` is the result of a line with this command on both benches
   abbrev of_command : Command → BothExecuted → BothWhy → Pair → Replied Pair
   of_command command executed why pair =
-      done_by (Given why (has_no_command command)) (with_line executed (Given executed.why (has_no_command command))) pair.ran
+      done_by (Given why (has_no_command command)) (line_executed executed (Given executed.why (has_no_command command))) pair.ran
 
   -- after a command, the pair has its invariant: the benches are still together, or the slot was entered
   command_keeps_pair_invariant : (pair : Pair) (command : Command) (executed : BothExecuted) (why : BothWhy) → executed.why ≡ why
       → CommandResult pair.first pair.second command executed → PairInvariant (of_command command executed why pair).state
   command_keeps_pair_invariant pair command executed All why_is result =
-      record { together = λ unentered. (result.alike_if_executed why_is).1; first = result.first_invariant; second = result.second_invariant }
+      record {
+        together = λ unentered. let (same_reply, still_together) = result.alike_if_executed why_is in still_together;
+        first = result.first_invariant;
+        second = result.second_invariant;
+      }
   command_keeps_pair_invariant pair command executed Entered why_is result =
       record { together = λ unentered. cc; first = result.first_invariant; second = result.second_invariant }
   command_keeps_pair_invariant pair command executed NotBlind why_is result =
@@ -188,15 +193,15 @@ module _ (slot : ℕ) where
         after.why ≡ All → after.first_reply ≡ after.second_reply)
     by_parsed (Ok command) = λ was_executed.
         let result = command_result pair.first pair.second command invariant.first invariant.second (invariant.together unentered) in
-        (result.alike_if_executed was_executed).0
+        let (same_reply, still_together) = result.alike_if_executed was_executed in same_reply
     by_parsed (Err fault) = tt
 
   -- the two benches of the pair stay together
   stay_together : (start : Pair) → PairInvariant start → StayTogether slot start
   stay_together start start_invariant lines line unentered =
       let invariant = lines_keep_pair_invariant start lines start_invariant in
-      let together = invariant.together unentered in
-      (together.0, together.1, replies_alike (state_after (pair_line slot) start lines) line invariant unentered)
+      let (equiv, not_running) = invariant.together unentered in
+      (equiv, not_running, replies_alike (state_after (pair_line slot) start lines) line invariant unentered)
 
   -- ---- integrity
 
@@ -210,10 +215,13 @@ module _ (slot : ℕ) where
   -- after a command, the benches are in the state after the commands that both executed
   command_follows : (pair : Pair) (command : Command) (executed : BothExecuted) (why : BothWhy) → executed.why ≡ why
       → CommandResult pair.first pair.second command executed → Follows pair (done_by_both why command) (of_command command executed why pair).state
-  command_follows pair command executed why why_is result = record {
-    first = (same_benches why).0 ∙ result.first_state ∙ ap (λ (why : BothWhy). after_commands pair.first (done_by_both why command)) why_is;
-    second = (same_benches why).1 ∙ result.second_state ∙ ap (λ (why : BothWhy). after_commands pair.second (done_by_both why command)) why_is;
-  } where
+  command_follows pair command executed why why_is result =
+      let (same_first, same_second) = same_benches why in
+      record {
+        first = same_first ∙ result.first_state ∙ ap (λ (why : BothWhy). after_commands pair.first (done_by_both why command)) why_is;
+        second = same_second ∙ result.second_state ∙ ap (λ (why : BothWhy). after_commands pair.second (done_by_both why command)) why_is;
+      }
+    where
     -- the benches of the pair after a line are those after the command, in each of the three cases
     same_benches : (why : BothWhy)
         → (let end = (of_command command executed why pair).state in (end.first ≡ executed.first) × (end.second ≡ executed.second))
@@ -290,12 +298,12 @@ module _ (slot : ℕ) where
     by_test : (can : Bool) → can_scramble slot bench ≡ can
         → IfSome (if can then Some (record { first = bench; second = scrambled slot bench; ran = 0; entered = false }) else None) PairInvariant
     by_test true is_scramblable =
-        let copy = scrambled_target_equiv bench.target invariant is_scramblable in
+        let (equiv_to_copy, copy_invariant) = scrambled_target_equiv bench.target invariant is_scramblable in
         record {
           together = λ unentered.
-              (record { target = copy.0; breaks = refl; watches = refl }, scrambled_on_no_hart slot bench.target invariant is_scramblable);
+              (record { target = equiv_to_copy; breaks = refl; watches = refl }, scrambled_on_no_hart slot bench.target invariant is_scramblable);
           first = invariant;
-          second = copy.1;
+          second = copy_invariant;
         }
     by_test false not_scramblable = tt
 
