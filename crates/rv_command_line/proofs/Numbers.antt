@@ -44,11 +44,17 @@ module _ (bits : ℕ) (text : Text) where
   -- the value that `get_one` returns for a text is the number of `bits` bits in the text
   pub reads_number : {E : Type 0} (G : Text → Result ℕ E → Type 0) (result : Option ℕ) → ReadsOne G text result
       → ((result_read : Result ℕ E) → G text result_read → ParsesUnsigned bits 10 text result_read) → result ≡ number_in_text bits text
-  reads_number G (Some number) read parses = let only_one = parses (Ok number) read in rw (word_decided.1 only_one.0) (ap Some only_one.1)
+  reads_number G (Some number) read parses =
+      let (test_if_number, number_is_value) = parses (Ok number) read in
+      let (number_if_test, test_holds_if_number) = word_decided in
+      rw (test_holds_if_number test_if_number) (ap Some number_is_value)
   reads_number G None read parses = by_test is_word refl where
     -- the same claim by cases on the test: a getter returns no value only if the text is no number in range
     by_test : (test : Bool) → is_word ≡ test → None ≡ cond test (Some value) None
-    by_test true test_is = absurd (parses (Err read.0) read.1 (word_decided.0 test_is))
+    by_test true test_is =
+        let (error, text_has_error) = read in
+        let (number_if_test, test_holds_if_number) = word_decided in
+        absurd (parses (Err error) text_has_error (number_if_test test_is))
     by_test false test_is = refl
 
   -- for every text, the number in the text is a value that `get_one` may return, where `bits` is the width of the number
@@ -57,5 +63,7 @@ module _ (bits : ℕ) (text : Text) where
     -- the same claim by cases on the test, which states whether the text is a number in range
     by_test : (test : Bool) → is_word ≡ test
         → ReadsOne {E = Bool} (λ text result. ParsesUnsigned bits 10 text result) text (cond test (Some value) None)
-    by_test true test_is = (word_decided.0 test_is, refl)
-    by_test false test_is = (true, λ is_number. true≢false (sym (word_decided.1 is_number) ∙ test_is))
+    by_test true test_is = let (number_if_test, test_holds_if_number) = word_decided in (number_if_test test_is, refl)
+    by_test false test_is =
+        let (number_if_test, test_holds_if_number) = word_decided in
+        (true, λ is_number. true≢false (sym (test_holds_if_number is_number) ∙ test_is))

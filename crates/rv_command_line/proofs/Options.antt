@@ -23,7 +23,8 @@ use Rattle.clap.specs.declared.builder.value_parser.ValueParser.TheVariants as p
 use Rattle.clap.specs.declared.error.kind.ErrorKind.{ErrorKind}
 use Rattle.clap.specs.declared.error.kind.ErrorKind.TheVariants as kind
 use Rattle.clap.specs.declared.parser.matches.ValueSource.TheVariants.{CommandLine, DefaultValue}
-use Rattle.rv_command_line.proofs.Alike.{Alike, entered_alike, entered_rows, at_definition, Fits, itself, no_fault_in_parts, rule_at, with_names}
+use Rattle.rv_command_line.proofs.Alike.{Alike, entered_alike, entered_rows, at_definition, Fits, no_fault_in_parts, result_as_rows, rule_at}
+use Rattle.rv_command_line.proofs.Alike.{with_names}
 use Rattle.rv_command_line.proofs.Numbers.{number_reads}
 use Rattle.rv_command_line.proofs.Readable.{are_values, either_good, Good, how, is_read, values_good, without_good}
 use Rattle.rv_command_line.specs.CommandLine as line
@@ -67,13 +68,14 @@ number_between bits low high high_fits value accepted =
 -- an accepted value of `--ram` is readable
 ram_read : (value : Text) → accepts false (parser.Signed (pos 0) (pos max_u32)) value ≡ true
     → is_some (number_in_text 32 (without_minus value)) ≡ true
-ram_read value accepted = ap is_some (number_between 32 0 max_u32 (omega arith) value accepted).1
+ram_read value accepted =
+    let (number, number_is_read, from_low, up_to_high) = number_between 32 0 max_u32 (omega arith) value accepted in ap is_some number_is_read
 
 -- an accepted value of `--slot` is readable
 slot_read : (value : Text) → accepts false (parser.Signed (pos 0) (pos last_slot)) value ≡ true → is_slot (without_minus value) ≡ true
 slot_read value accepted =
-    let number = number_between 8 0 last_slot (omega arith) value accepted in
-    ap (λ found. option_map_or (λ slot. nat_lt slot 13) found false) number.1 ∙ lt-ltb number.0 13 (omega arith)
+    let (number, number_is_read, from_0, up_to_last_slot) = number_between 8 0 last_slot (omega arith) value accepted in
+    ap (λ found. option_map_or (λ slot. nat_lt slot 13) found false) number_is_read ∙ lt-ltb number 13 (omega arith)
 
 -- 1 and 2 are valid numbers of harts
 harts_counted : (number : ℕ) → 1 ≤ number → number ≤ 2 → is_some (counted_harts number) ≡ true
@@ -82,8 +84,8 @@ harts_counted number at_least_one at_most_two = grind (arith, nat_tests)
 -- an accepted value of `--harts` is readable
 harts_read : (value : Text) → accepts false (parser.Signed (pos 1) (pos 2)) value ≡ true → is_some (harts_in_text (without_minus value)) ≡ true
 harts_read value accepted =
-    let number = number_between 8 1 2 (omega arith) value accepted in
-    ap (λ found. is_some (option_and_then counted_harts found)) number.1 ∙ harts_counted number.0 number.2 number.3
+    let (number, number_is_read, at_least_one, at_most_two) = number_between 8 1 2 (omega arith) value accepted in
+    ap (λ found. is_some (option_and_then counted_harts found)) number_is_read ∙ harts_counted number at_least_one at_most_two
 
 -- if there is no error for the values of an option, all pass a test that each accepted value passes
 values_pass : (value_parser : ValueParser) (test : Text → Bool) → ((value : Text) → accepts false value_parser value ≡ true → test value ≡ true)
@@ -133,11 +135,12 @@ module _ (elsewhere : Names) (alike : texts elsewhere.now ≡ kind_names) where
   values_same value_parser (value ∷ other_values) = rw (value_same value_parser value, values_same value_parser other_values) refl
 
   -- a step that does not use the names is alike, if it keeps rows with readable values readable
-  nameless : {rows after : List Row} {fault : Kinds} → (fault ≡ [] → Good rows → Good after) → Alike elsewhere itself rows (λ _. fault) (λ _. after)
+  nameless : {rows after : List Row} {fault : Kinds} → (fault ≡ [] → Good rows → Good after)
+      → Alike elsewhere result_as_rows rows (λ _. fault) (λ _. after)
   nameless rows_stay_good = record { same_faults = refl; same_result = refl; keeps_good = rows_stay_good }
 
   -- an option with a value does not depend on the address of the names
-  valued_fits : (name : Text) (value_parser : ValueParser) → ((number : Names) → reading_of (with_names number value_parser) ≡ how name)
+  valued_fits : (name : Text) (value_parser : ValueParser) → ((location : Names) → reading_of (with_names location value_parser) ≡ how name)
       → ((value : Text) → accepts false (with_names at_definition value_parser) value ≡ true → is_read name (read_as (how name) value) ≡ true)
       → Fits elsewhere (filled (valued name value_parser))
   valued_fits name value_parser same_reading accepted_is_read = record {
@@ -146,9 +149,9 @@ module _ (elsewhere : Names) (alike : texts elsewhere.now ≡ kind_names) where
   }
     where
       -- a use of the option with these values does not depend on the address of the names
-      use_alike : (again : Bool) (values : List Text) (rows : List Row) → Alike elsewhere itself rows
-          (λ number. use_fault again (rule_at number (filled (valued name value_parser))) values rows)
-          (λ number. used (rule_at number (filled (valued name value_parser))) values rows)
+      use_alike : (again : Bool) (values : List Text) (rows : List Row) → Alike elsewhere result_as_rows rows
+          (λ location. use_fault again (rule_at location (filled (valued name value_parser))) values rows)
+          (λ location. used (rule_at location (filled (valued name value_parser))) values rows)
       use_alike again [] rows = record {
         same_faults = refl;
         same_result = rw (same_reading elsewhere, same_reading at_definition) refl;
@@ -158,7 +161,9 @@ module _ (elsewhere : Names) (alike : texts elsewhere.now ≡ kind_names) where
         same_faults = rw (values_same value_parser (value ∷ other_values)) refl;
         same_result = rw (same_reading elsewhere, same_reading at_definition) refl;
         keeps_good = λ no_fault good.
-            let values_accepted = (no_fault_in_parts _ _ (no_fault_in_parts _ _ no_fault).1).1 in
+            -- the errors of a use are those of the number of values, then those of a repeated use, and then those of the values
+            let (none_in_number, none_in_rest) = no_fault_in_parts _ _ no_fault in
+            let (none_in_repetition, values_accepted) = no_fault_in_parts _ _ none_in_rest in
             let values_read =
             values_pass (with_names at_definition value_parser) (λ value. is_read name (read_as (how name) value)) accepted_is_read
             (value ∷ other_values) values_accepted in
@@ -175,9 +180,9 @@ module _ (elsewhere : Names) (alike : texts elsewhere.now ≡ kind_names) where
   }
     where
       -- a use of `--monitor` with these values does not depend on the address of the names
-      use_alike : (again : Bool) (values : List Text) (rows : List Row) → Alike elsewhere itself rows
-          (λ number. use_fault again (rule_at number (filled line.monitor)) values rows)
-          (λ number. used (rule_at number (filled line.monitor)) values rows)
+      use_alike : (again : Bool) (values : List Text) (rows : List Row) → Alike elsewhere result_as_rows rows
+          (λ location. use_fault again (rule_at location (filled line.monitor)) values rows)
+          (λ location. used (rule_at location (filled line.monitor)) values rows)
       use_alike again [] rows = nameless (λ no_fault good.
           values_good (codes "monitor") CommandLine (codes "true" ∷ []) _ refl (without_good (codes "monitor") rows good))
       use_alike again (value ∷ other_values) rows = nameless (λ no_fault good. no_value_wanted (length other_values) _ no_fault)
@@ -199,12 +204,13 @@ module _ (elsewhere : Names) (alike : texts elsewhere.now ≡ kind_names) where
 
   -- the errors and the rows of the entered subcommand do not depend on the address of the names, since each of its rules does not
   enters : (stop : Option (Text × List Text))
-      → Alike elsewhere entered_rows [] (λ number. entered_fault (built (program number)) stop) (λ number. entered (built (program number)) stop)
+      → Alike elsewhere entered_rows [] (λ location. entered_fault (built (program location)) stop)
+      (λ location. entered (built (program location)) stop)
   enters =
-      let kind = valued_fits (codes "kind") (parser.Names at_definition) (λ number. refl) kind_read in
-      let ram = valued_fits (codes "ram") (parser.Signed (pos 0) (pos max_u32)) (λ number. refl) ram_read in
-      let harts = valued_fits (codes "harts") (parser.Signed (pos 1) (pos 2)) (λ number. refl) harts_read in
-      let slot = valued_fits (codes "slot") (parser.Signed (pos 0) (pos last_slot)) (λ number. refl) slot_read in
+      let kind = valued_fits (codes "kind") (parser.Names at_definition) (λ location. refl) kind_read in
+      let ram = valued_fits (codes "ram") (parser.Signed (pos 0) (pos max_u32)) (λ location. refl) ram_read in
+      let harts = valued_fits (codes "harts") (parser.Signed (pos 1) (pos 2)) (λ location. refl) harts_read in
+      let slot = valued_fits (codes "slot") (parser.Signed (pos 0) (pos last_slot)) (λ location. refl) slot_read in
       entered_alike elsewhere (built rvbench).subs (
         (kind, (ram, (monitor_fits, (harts, (help_fits, tt))))),
         ((slot, (kind, (ram, (harts, (help_fits, tt))))), ((help_fits, tt), ((help_fits, tt), ((topic_fits, tt), tt)))),
@@ -227,5 +233,6 @@ pub accepted_good : (words : List Text) → faults_of words ≡ [] → Good (ent
 accepted_good words no_fault =
     let app = built rvbench in
     let walks = walk_fault app.top (names_of app) (walk_from nothing_held) (argument_words app words) in
-    let none_in_entered = (no_fault_in_parts (entered_fault app (stop_at words)) _ (no_fault_in_parts walks _ no_fault).1).0 in
+    let (none_in_walk, none_after_walk) = no_fault_in_parts walks _ no_fault in
+    let (none_in_entered, none_later) = no_fault_in_parts (entered_fault app (stop_at words)) _ none_after_walk in
     (enters at_definition refl (stop_at words)).keeps_good none_in_entered tt

@@ -47,60 +47,69 @@ either_good false rows others rows_good others_good = others_good
 -- rows stay good if the rows of one option are removed
 pub without_good : (id : Text) (rows : List Row) → Good rows → Good (without id rows)
 without_good id [] good = tt
-without_good id (row ∷ other_rows) good = by_id (bytes_eq row.id id) (without_good id other_rows good.1) where
+without_good id (row ∷ other_rows) (row_good, others_are_good) = by_id (bytes_eq row.id id) (without_good id other_rows others_are_good) where
   -- the same claim by cases on whether the first row is one of that option
   by_id : (same_id : Bool) → Good (without id other_rows) → Good (cond same_id other_rows (row ∷ without id other_rows))
-  by_id true others_good = good.1
-  by_id false others_good = (good.0, others_good)
+  by_id true kept_rows_good = others_are_good
+  by_id false kept_rows_good = (row_good, kept_rows_good)
 
 -- rows stay good if readable values of one option are added
 pub values_good : (id : Text) (source : ValueSource) (values : List Text) (rows : List Row) → are_values id values ≡ true → Good rows
     → Good (with_values id (how id) source values rows)
 values_good id source values [] values_readable good = ((refl, values_readable), tt)
-values_good id source values (row ∷ other_rows) values_readable good =
-    by_id (bytes_eq row.id id) refl (values_good id source values other_rows values_readable good.1)
+values_good id source values (row ∷ other_rows) values_readable ((row_has_reading, row_values_readable), others_good) =
+    by_id (bytes_eq row.id id) refl (values_good id source values other_rows values_readable others_good)
   where
     -- the same claim by cases on whether the first row is one of the option
     by_id : (same_id : Bool) → bytes_eq row.id id ≡ same_id → Good (with_values id (how id) source values other_rows)
         → Good (cond same_id (more_values source values row ++ other_rows) (row ∷ with_values id (how id) source values other_rows))
-    by_id true id_is others_good =
-        let ids_are_equal = (bytes_eq-Decides row.id id).0 id_is in (
+    by_id true id_is others_with_values_good =
+        let (equal_if_test, test_if_equal) = bytes_eq-Decides row.id id in
+        let ids_are_equal = equal_if_test id_is in (
           (
-            good.0.0,
-            rw (list_all-append (λ value. is_read row.id (read_as (how row.id) value)) row.values values, good.0.1, ids_are_equal)
+            row_has_reading,
+            -- the row then has its readable values, followed by the new values, which are readable as values of the option `id`
+            rw (list_all-append (λ value. is_read row.id (read_as (how row.id) value)) row.values values, row_values_readable, ids_are_equal)
                 values_readable,
           ),
-          good.1,
+          others_good,
         )
-    by_id false id_is others_good = (good.0, others_good)
+    by_id false id_is others_with_values_good = ((row_has_reading, row_values_readable), others_with_values_good)
 
 -- if a text is readable in each good row with this id, it is readable in the row that a search for the id finds
 row_read : (id : Text) (text : Row → Option Text) → ((row : Row) → row.id ≡ id → GoodRow row → option_map_or (is_read id) (text row) true ≡ true)
     → (rows : List Row) → Good rows → option_map_or (is_read id) (option_and_then text (find (λ row. bytes_eq row.id id) rows)) true ≡ true
 row_read id text each_read [] good = refl
-row_read id text each_read (row ∷ other_rows) good = by_id (bytes_eq row.id id) refl (row_read id text each_read other_rows good.1) where
+row_read id text each_read (row ∷ other_rows) (row_good, others_good) =
+    by_id (bytes_eq row.id id) refl (row_read id text each_read other_rows others_good)
+  where
   -- the same claim by cases on whether the first row has the id
   by_id : (same_id : Bool) → bytes_eq row.id id ≡ same_id
       → option_map_or (is_read id) (option_and_then text (find (λ row. bytes_eq row.id id) other_rows)) true ≡ true
       → option_map_or (is_read id) (option_and_then text (cond same_id (Some row) (find (λ row. bytes_eq row.id id) other_rows))) true ≡ true
-  by_id true id_is others_read = each_read row ((bytes_eq-Decides row.id id).0 id_is) good.0
+  by_id true id_is others_read = let (equal_if_test, test_if_equal) = bytes_eq-Decides row.id id in each_read row (equal_if_test id_is) row_good
   by_id false id_is others_read = others_read
 
 -- the first of several readable values is readable
 first_read : (id : Text) (other_values : List Text) → are_values id other_values ≡ true
     → option_map_or (is_read id) (option_map (read_as (how id)) (slice_get other_values 0)) true ≡ true
 first_read id [] all_read = refl
-first_read id (value ∷ other_values) all_read = (both (is_read id (read_as (how id) value)) (are_values id other_values) all_read).0
+first_read id (value ∷ other_values) all_read =
+    let (value_is_read, others_are_read) = both (is_read id (read_as (how id) value)) (are_values id other_values) all_read in value_is_read
 
 -- in good rows, the value of an option is readable, if the option has a value
 pub one_read : (id : Text) (rows : List Row) → Good rows → option_map_or (is_read id) (one_of id rows) true ≡ true
-one_read id = row_read id row_text (λ row same_id good. rw (good.0, sym same_id) (first_read row.id row.values good.1))
+one_read id = row_read id row_text (λ row same_id row_good. let (row_has_reading, row_values_readable) = row_good in
+    rw (row_has_reading, sym same_id) (first_read row.id row.values row_values_readable))
 
 -- in good rows, the value of `--kind` is readable, if the option has a value
 pub kind_read : (rows : List Row) → Good rows → option_map_or (is_read (codes "kind")) (first_of (codes "kind") rows) true ≡ true
-kind_read = row_read (codes "kind") (λ row. slice_get row.values 0) (λ row same_id good. first_value_read row.values (rw same_id at good.1)) where
+kind_read = row_read (codes "kind") (λ row. slice_get row.values 0) (λ row same_id row_good.
+    let (row_has_reading, row_values_readable) = row_good in first_value_read row.values (rw same_id at row_values_readable))
+  where
   -- the first of readable values of `--kind` is readable, if there is one
   first_value_read : (other_values : List Text) → are_values (codes "kind") other_values ≡ true
       → option_map_or (is_read (codes "kind")) (slice_get other_values 0) true ≡ true
   first_value_read [] all_read = refl
-  first_value_read (value ∷ other_values) all_read = (both (is_read (codes "kind") value) (are_values (codes "kind") other_values) all_read).0
+  first_value_read (value ∷ other_values) all_read =
+      let (value_is_read, others_are_read) = both (is_read (codes "kind") value) (are_values (codes "kind") other_values) all_read in value_is_read

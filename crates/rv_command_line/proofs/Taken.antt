@@ -22,7 +22,7 @@ use Rattle.rv_command_line.specs.declared.words_fault.WordsFault.TheVariants as 
 options_good : (name : Text) (met : Option (Text × List Row)) → Good (entered_rows met)
     → Good (option_map_or (λ met. cond (bytes_eq met.0 name) met.1 []) met [])
 options_good name None good = tt
-options_good name (Some met) good = either_good (bytes_eq met.0 name) met.1 [] good tt
+options_good name (Some (entered_name, rows)) good = either_good (bytes_eq entered_name name) rows [] good tt
 
 -- rows with readable values (good rows) have a readable setup
 setup_read : (rows : List Row) → Good rows → is_setup_read rows ≡ true
@@ -51,13 +51,13 @@ slot_below (Some text) slot_is_valid = by_number (number_in_text 8 text) slot_is
 -- the job of a subcommand with good options is valid
 named_valid : (met : Option (Text × List Row)) → Good (entered_rows met) → is_valid_job (named_job met) ≡ true
 named_valid None good = refl
-named_valid (Some met) good = by_name (bytes_eq met.0 (codes "asm")) (bytes_eq met.0 (codes "dis")) (bytes_eq met.0 (codes "twin")) where
+named_valid (Some (name, rows)) good = by_name (bytes_eq name (codes "asm")) (bytes_eq name (codes "dis")) (bytes_eq name (codes "twin")) where
   -- the same claim by cases on the tests of the subcommand's name; only a twin run has a slot, which must be valid
   by_name : (is_asm is_dis is_twin : Bool)
-      → is_valid_job (cond is_asm job.Asm (cond is_dis job.Dis (cond is_twin (twin_of met.1) (run_of met.1)))) ≡ true
+      → is_valid_job (cond is_asm job.Asm (cond is_dis job.Dis (cond is_twin (twin_of rows) (run_of rows)))) ≡ true
   by_name true is_dis is_twin = refl
   by_name false true is_twin = refl
-  by_name false false true = slot_below (one_of (codes "slot") met.1) (one_read (codes "slot") met.1 good)
+  by_name false false true = slot_below (one_of (codes "slot") rows) (one_read (codes "slot") rows good)
   by_name false false false = refl
 
 -- arguments without an error have a valid job

@@ -19,8 +19,10 @@ clauses_hold : {E : Type 0} (names : Names) → texts names.now ≡ kind_names �
 clauses_hold names same_names (Ok command) command_is = record {
   simple = ap is_simple command_is;
   free = ap is_simple_and_free command_is;
-  faults = λ words. ap (λ app. fault_of app words) command_is ∙ (program_alike names same_names words).0;
-  subcommand = λ words. ap (λ app. subcommand_of app words) command_is ∙ (program_alike names same_names words).1;
+  faults = λ words. let (same_faults, same_subcommand) = program_alike names same_names words in
+      ap (λ app. fault_of app words) command_is ∙ same_faults;
+  subcommand = λ words. let (same_faults, same_subcommand) = program_alike names same_names words in
+      ap (λ app. subcommand_of app words) command_is ∙ same_subcommand;
 }
 clauses_hold names same_names (Err error) none = record { simple = tt; free = tt; faults = tt; subcommand = tt }
 

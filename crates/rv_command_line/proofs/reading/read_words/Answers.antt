@@ -14,7 +14,9 @@ pub returns-in-Ok-try_get_matches_from : goal.returns-in-Ok-try_get_matches_from
 returns-in-Ok-try_get_matches_from c =
     let words = texts c.args.words.now in
     let no_fault = sym (c.in-Ok.ensures.faults words) ∙ c.in-Ok-try_get_matches_from.ensures.kinds c.in-Ok.ensures.free in
-    let subcommand_is = (c.in-Ok-try_get_matches_from.ensures.matches c.in-Ok.ensures.simple).1 ∙ c.in-Ok.ensures.subcommand words in
+    let (rest_of_matches, matched_subcommand_is) = c.in-Ok-try_get_matches_from.ensures.matches c.in-Ok.ensures.simple in
+    let subcommand_is = matched_subcommand_is ∙ c.in-Ok.ensures.subcommand words in
+    -- the arguments without an error mean this job, or are refused (`answers`)
     rw (c.with_its_monitor.ensures, c.matched_job.ensures ∙ ap named_job subcommand_is) (answers words no_fault (has_its_monitor (job_of words)) refl)
 
 -- an error that is among the first faults is among them and more faults
