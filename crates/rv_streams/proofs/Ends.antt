@@ -46,8 +46,10 @@ no_failure old between new result value new_is result_is between_is =
 pub SinkFailed-after : {W : Type 0} (sink_view : SinkGhosts W) {old between new : W} → SinkWorked sink_view old between
     → SinkFailed sink_view between new
     → SinkFailed sink_view old new
-SinkFailed-after sink_view worked (inl failures_rose) = let same_failures = worked.worked.0 in inl (omega (arith, failures_rose, same_failures))
-SinkFailed-after sink_view worked (inr refusals_rose) = let same_refusals = worked.worked.1 in inr (omega (arith, refusals_rose, same_refusals))
+SinkFailed-after sink_view first (inl failures_rose) =
+    let (same_failures, same_refusals) = first.worked in inl (omega (arith, failures_rose, same_failures))
+SinkFailed-after sink_view first (inr refusals_rose) =
+    let (same_failures, same_refusals) = first.worked in inr (omega (arith, refusals_rose, same_refusals))
 
 -- a sink that worked in two calls, one after the other, worked in both together
 pub SinkWorked-more : {W : Type 0} (sink_view : SinkGhosts W) {old between new : W} → SinkWorked sink_view old between
@@ -72,7 +74,8 @@ SinkFlushed-after sink_view first flush = record {
 pub flushed_once : {W A E : Type 0} (sink_view : SinkGhosts W) {old new : W} (result : Result A E) {value : A} → result ≡ Ok value
     → OnOk result (NoneFailed sink_view old new)
     → OnOk result ((sink_view.is_flushed new ≡ true) × (sink_view.flushes new ≡ sink_view.flushes old + 1)) → SinkFlushed sink_view old new
-flushed_once sink_view (Ok value) result_is worked flushed = record { worked = worked; flushed = flushed.0; once = flushed.1 }
+flushed_once sink_view (Ok value) result_is worked (is_flushed, one_more_flush) =
+    record { worked = worked; flushed = is_flushed; once = one_more_flush }
 flushed_once sink_view (Err fault) result_is worked flushed = let impossible : Err fault ≡ Ok _ = result_is in cc
 
 -- a flush that succeeded counts as one flush, without a failure
@@ -100,7 +103,7 @@ EndsWithSource-more {S} {source_view} old between new first second = record {
   -- if the lines are not at their end in `new`, the number of ends that the source returned is unchanged
   no_new_end : (ended_between : Bool) → between.is_at_end ≡ ended_between → new.is_at_end ≡ false
       → source_view.ends new.source ≡ source_view.ends old.source
-  no_new_end true at_end_between not_at_end = let new_at_end = (second.stays_at_end at_end_between).0 in cc
+  no_new_end true at_end_between not_at_end = let (new_at_end, same_ends) = second.stays_at_end at_end_between in cc
   no_new_end false not_at_end_between not_at_end = second.no_new_end not_at_end ∙ first.no_new_end not_at_end_between
 
   -- if the lines are at their end in `new`, the source returned its end, in the first call if `ended_between`, and otherwise in the second
@@ -108,7 +111,7 @@ EndsWithSource-more {S} {source_view} old between new first second = record {
   has_ended true at_end_between at_end = elim (first.ended at_end_between) [
     | inl old_at_end ↦ inl old_at_end
     | inr first_rose ↦
-        let same_ends = (second.stays_at_end at_end_between).1 in
+        let (new_at_end, same_ends) = second.stays_at_end at_end_between in
         let ends_rose : HasRisen (source_view.ends old.source) (source_view.ends new.source) = omega (arith, first_rose, same_ends) in inr ends_rose
   ]
   has_ended false not_at_end_between at_end = elim (second.ended at_end) [
@@ -123,6 +126,7 @@ pub separator_read : {S : Type 0} {source_view : Ghosts S} (old between new : Li
     → EndsWithSource between new
     → new.is_at_end ≡ false → source_view.follows_input new.source → IsTrue (has_separator (unread old))
 separator_read old between new reads ends not_at_end follows = elim reads.ended [
-  | inl at_end_between ↦ absurd (false≢true (sym not_at_end ∙ (ends.stays_at_end at_end_between).0))
+  | inl at_end_between ↦
+      let (new_at_end, same_ends) = ends.stays_at_end at_end_between in absurd (false≢true (sym not_at_end ∙ new_at_end))
   | inr separated ↦ separated (ends.followed_before follows)
 ]

@@ -35,15 +35,15 @@ module _ {S : Type 0} {source_view : Ghosts S} (Z : Type 0) (old new : Lines S s
   refused remaining image added shown word Hex line_taken word_is (no_bytes, unchanged) = record {
     source = source_worked;
     emptied = none_held;
-    image = λ follows. (EncodesImage-no_digits (line_taken follows) word_is no_bytes).0;
-    reads = λ follows. (EncodesImage-no_digits (line_taken follows) word_is no_bytes).1;
+    image = λ follows. let (image_fails, stops_at_line) = EncodesImage-no_digits (line_taken follows) word_is no_bytes in image_fails;
+    reads = λ follows. let (image_fails, stops_at_line) = EncodesImage-no_digits (line_taken follows) word_is no_bytes in stops_at_line;
   }
   -- the image with the bytes of the line exceeds the limit
   refused remaining image added shown word TooLong line_taken word_is (exceeds, unchanged) = record {
     source = source_worked;
     emptied = none_held;
-    image = λ follows. (EncodesImage-too_long (line_taken follows) word_is exceeds).0;
-    reads = λ follows. (EncodesImage-too_long (line_taken follows) word_is exceeds).1;
+    image = λ follows. let (image_fails, stops_at_line) = EncodesImage-too_long (line_taken follows) word_is exceeds in image_fails;
+    reads = λ follows. let (image_fails, stops_at_line) = EncodesImage-too_long (line_taken follows) word_is exceeds in stops_at_line;
   }
   -- memory for the bytes of the line is refused
   refused remaining image added shown word NoMemory line_taken word_is (memory_refused, unchanged) =

@@ -53,8 +53,8 @@ only_word_within : (limit : ℕ) (words : List (List ℕ)) (word : List ℕ) →
 unfolding AllWithin
 only_word_within limit [] word within only_word_is =
     let word_is_empty : [] ≡ word = cc in subst (λ (word : List ℕ). length word ≤ limit) word_is_empty (omega arith)
-only_word_within limit (first ∷ []) word within only_word_is =
-    let word_is_first : first ≡ word = cc in subst (λ (word : List ℕ). length word ≤ limit) word_is_first within.0
+only_word_within limit (first ∷ []) word (first_within, no_others) only_word_is =
+    let word_is_first : first ≡ word = cc in subst (λ (word : List ℕ). length word ≤ limit) word_is_first first_within
 only_word_within limit (first ∷ second ∷ words) word within only_word_is = cc
 
 -- a good line has at most `max_line` bytes
