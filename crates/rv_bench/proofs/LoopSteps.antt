@@ -146,7 +146,7 @@ module _ {S W : Type 0} {source_view : SourceGhosts S} {sink_view : SinkGhosts W
 
         -- if the responder is over after this line, the script ends
         pub LineStep-over : responder.is_over after ≡ true → RespondsToAll sink_view responder end start after old new before last
-        LineStep-over is_over = record {
+        LineStep-over is_over = let (response_is, same_response_to_significant_bytes) = step.responds in record {
           source = step.source ∙ step.so_far.source;
           sink = SinkWorked-more sink_view step.so_far.sink sink_worked;
           emptied = step.emptied;
@@ -155,7 +155,7 @@ module _ {S W : Type 0} {source_view : SourceGhosts S} {sink_view : SinkGhosts W
             shown = step.shown;
             taken_before = sink_view.taken sink_now;
             reply = reply;
-            response_is = step.responds.0;
+            response_is = response_is;
             not_over = step.so_far.not_over;
             is_over = is_over;
             wrote_reply = wrote_reply;

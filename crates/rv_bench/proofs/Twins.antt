@@ -262,10 +262,10 @@ module _ {S W : Type 0} {source_view : SourceGhosts S} (sink_view : SinkGhosts W
               reports_end = ended.reports_end;
             })
             -- the run was over before the end of the input: no slot was scrambled, or a line entered the slot
-            | inr (is_over, told) ↦ inr (
+            | inr (is_over, end_is_reported) ↦ inr (
               λ follows. second_of_input (second_end.followed_before follows) (λ pair script. IsOver slot pair script (unread new) new.is_at_end)
                   (is_over follows),
-              told,
+              end_is_reported,
             )
           ];
           -- the replies to the first script, and then the text of the second script, are the output

@@ -48,8 +48,9 @@ within_limit text read read_is text_within_limit = subst (λ text. length text �
 output_is : (g : given.Over) (c : In-Ok g) → g.S.Source.follows_input c.read_whole.new.source
     → asm_output (g.S.Source.remaining c.args.source.now) ≡ Ok (asm_text c.in-Ok.words.items)
 output_is g c follows =
-    let read_is = c.as_slice.ensures.value ∙ c.in_ok-text.ensures.2 follows in
-    ap asm_output (sym read_is) ∙ asm_output-ok _ _ (within_limit _ _ c.as_slice.ensures.value c.in_ok-text.ensures.1) c.in-Ok.ensures.ok
+    let (source_read, text_within_limit, text_is) = c.in_ok-text.ensures in
+    let read_is = c.as_slice.ensures.value ∙ text_is follows in
+    ap asm_output (sym read_is) ∙ asm_output-ok _ _ (within_limit _ _ c.as_slice.ensures.value text_within_limit) c.in-Ok.ensures.ok
 
 -- if the text is assembled, a line for each word is written; if the sink fails, a prefix of these lines is written, and the result is `Write`
 pub returns-in-Ok : goal.returns-in-Ok
@@ -94,7 +95,7 @@ text_fails g h old new sink text fault reads text_is text_within_limit line_numb
 -- if the text has an error, the result is this error with its line number, and nothing is written
 pub returns : goal.returns
 returns g c =
+    let (source_read, text_within_limit, text_is) = c.in_ok-text.ensures in
     text_fails g.S.Source g.W.Sink c.args.source.now c.read_whole.new.source c.args.sink.now c.as_slice.result.now c.in-Err.fault
-    c.in_ok-text.ensures.0 (λ follows. c.as_slice.ensures.value ∙ c.in_ok-text.ensures.2 follows)
-    (within_limit _ _ c.as_slice.ensures.value c.in_ok-text.ensures.1)
+    source_read (λ follows. c.as_slice.ensures.value ∙ text_is follows) (within_limit _ _ c.as_slice.ensures.value text_within_limit)
     c.in-Err.ensures.line c.in-Err.ensures.fault

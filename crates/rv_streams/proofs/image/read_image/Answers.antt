@@ -32,15 +32,15 @@ line_taken g c not_separator follows =
 pub returns-in_err-line-clause-outcome : goal.returns-in_err-line-clause-outcome
 returns-in_err-line-clause-outcome g c =
     let fault_is : c.from_residual.result ≡ Err Read = search rules in
-    let read_err = err_mapped _ c.next_line.result c.map_err.result _ c.map_err.ensures.cases c.in_err-line.was in
-    let (not_at_end, new_not_at_end) = IfErr-at_err _ read_err.1 c.next_line.ensures.read.err in
+    let (read_fault, read_failed) = err_mapped _ c.next_line.result c.map_err.result _ c.map_err.ensures.cases c.in_err-line.was in
+    let (not_at_end, new_not_at_end) = IfErr-at_err _ read_failed c.next_line.ensures.read.err in
     rw fault_is (record {
       source = search rules;
       not_at_end = new_not_at_end;
       reads = λ follows.
           let encodes = c.loop-image.invariant.image (c.next_line.ensures.read.end.followed_before follows) in
           EncodesImage-read _ _ _ _ _ (EncodesImage-going _ _ _ _ encodes not_at_end) (omega arith)
-          (IfErr-at_err _ read_err.1 (c.next_line.ensures.read.kept follows));
+          (IfErr-at_err _ read_failed (c.next_line.ensures.read.kept follows));
     })
 
 -- if a line has no valid word, the result is `Hex` (clause `outcome`)
@@ -51,8 +51,8 @@ returns-in_default-only_word-clause-outcome g c =
     let finds : FindsFault Hex c.args.lines.now c.next_line.new.self = record {
       source = search rules;
       emptied = search rules;
-      image = λ follows. (EncodesImage-no_word (taken follows) c.in_default-only_word.ensures).0;
-      reads = λ follows. (EncodesImage-no_word (taken follows) c.in_default-only_word.ensures).1;
+      image = λ follows. let (image_fails, stops_at_line) = EncodesImage-no_word (taken follows) c.in_default-only_word.ensures in image_fails;
+      reads = λ follows. let (image_fails, stops_at_line) = EncodesImage-no_word (taken follows) c.in_default-only_word.ensures in stops_at_line;
     } in
     finds
 
@@ -104,7 +104,7 @@ returns-clause-outcome g c =
     image_read Global c.args.lines.now c.next_line.new.self (search rules) (search rules) c.loop-image.lines c.loop-image.image
     (inl (record {
       at_end = IfOk-at_ok _ no_line c.next_line.ensures.none;
-      none = λ follows. (IfOk-at_ok _ no_line (c.next_line.ensures.nothing follows)).0;
-      none_left = λ follows. (IfOk-at_ok _ no_line (c.next_line.ensures.nothing follows)).1;
+      none = λ follows. let (none_before, none_after) = IfOk-at_ok _ no_line (c.next_line.ensures.nothing follows) in none_before;
+      none_left = λ follows. let (none_before, none_after) = IfOk-at_ok _ no_line (c.next_line.ensures.nothing follows) in none_after;
     }))
     c.loop-image.invariant.within_limit (λ follows. c.loop-image.invariant.image (c.next_line.ensures.read.end.followed_before follows))
