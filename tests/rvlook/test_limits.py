@@ -61,9 +61,9 @@ def test_limit_of_seconds_ends_one_run_of_the_search(rvlook, tmp_path):
 def test_ctrl_c_prints_what_inputs_has_found(bench, tmp_path):
     """The search sends SIGINT to itself at its first finding."""
     at_a_finding = (
-        "import os, signal; from rvlook.finders.inputs.judge import TraceJudge; take = TraceJudge.take; "
+        "import os, signal; from rvlook.finders.inputs.judge import TraceJudge; take = TraceJudge.judge_trace; "
         "signal.signal(signal.SIGINT, signal.default_int_handler); "
-        "TraceJudge.take = lambda self, trace: (take(self, trace), self.findings and os.kill(os.getpid(), signal.SIGINT))[0]")
+        "TraceJudge.judge_trace = lambda self, trace: (take(self, trace), self.findings and os.kill(os.getpid(), signal.SIGINT))[0]")
     words = ("inputs", "--monitor", BUG / "image", "--symbols", BUG / "symbols", "--runs", "1000000")
     with open(tmp_path / "output", "w", encoding="ascii") as output:
         status, errors = Runs(RVLOOK, ROOT, bench).patched(at_a_finding, words, stdout=output)

@@ -222,12 +222,12 @@ module _ (slot : ℕ) where
         second = same_second ∙ result.second_state ∙ ap (λ (why : BothWhy). after_commands pair.second (done_by_both why command)) why_is;
       }
     where
-    -- the benches of the pair after a line are those after the command, in each of the three cases
-    same_benches : (why : BothWhy)
-        → (let end = (of_command command executed why pair).state in (end.first ≡ executed.first) × (end.second ≡ executed.second))
-    same_benches All = (refl, refl)
-    same_benches Entered = (refl, refl)
-    same_benches NotBlind = (refl, refl)
+      -- the benches of the pair after a line are those after the command, in each of the three cases
+      same_benches : (why : BothWhy)
+          → (let end = (of_command command executed why pair).state in (end.first ≡ executed.first) × (end.second ≡ executed.second))
+      same_benches All = (refl, refl)
+      same_benches Entered = (refl, refl)
+      same_benches NotBlind = (refl, refl)
 
   -- after a line, the benches are in the state after the commands that both executed
   line_follows : (pair : Pair) (line : List ℕ) → PairInvariant pair → Follows pair (done_in_line slot pair line) (pair_line slot pair line).state

@@ -83,12 +83,12 @@ row_read id text each_read [] good = refl
 row_read id text each_read (row ∷ other_rows) (row_good, others_good) =
     by_id (bytes_eq row.id id) refl (row_read id text each_read other_rows others_good)
   where
-  -- the same claim by cases on whether the first row has the id
-  by_id : (same_id : Bool) → bytes_eq row.id id ≡ same_id
-      → option_map_or (is_read id) (option_and_then text (find (λ row. bytes_eq row.id id) other_rows)) true ≡ true
-      → option_map_or (is_read id) (option_and_then text (cond same_id (Some row) (find (λ row. bytes_eq row.id id) other_rows))) true ≡ true
-  by_id true id_is others_read = let (equal_if_test, test_if_equal) = bytes_eq-Decides row.id id in each_read row (equal_if_test id_is) row_good
-  by_id false id_is others_read = others_read
+    -- the same claim by cases on whether the first row has the id
+    by_id : (same_id : Bool) → bytes_eq row.id id ≡ same_id
+        → option_map_or (is_read id) (option_and_then text (find (λ row. bytes_eq row.id id) other_rows)) true ≡ true
+        → option_map_or (is_read id) (option_and_then text (cond same_id (Some row) (find (λ row. bytes_eq row.id id) other_rows))) true ≡ true
+    by_id true id_is others_read = let (equal_if_test, test_if_equal) = bytes_eq-Decides row.id id in each_read row (equal_if_test id_is) row_good
+    by_id false id_is others_read = others_read
 
 -- the first of several readable values is readable
 first_read : (id : Text) (other_values : List Text) → are_values id other_values ≡ true
@@ -107,9 +107,9 @@ pub kind_read : (rows : List Row) → Good rows → option_map_or (is_read (code
 kind_read = row_read (codes "kind") (λ row. slice_get row.values 0) (λ row same_id row_good.
     let (row_has_reading, row_values_readable) = row_good in first_value_read row.values (rw same_id at row_values_readable))
   where
-  -- the first of readable values of `--kind` is readable, if there is one
-  first_value_read : (other_values : List Text) → are_values (codes "kind") other_values ≡ true
-      → option_map_or (is_read (codes "kind")) (slice_get other_values 0) true ≡ true
-  first_value_read [] all_read = refl
-  first_value_read (value ∷ other_values) all_read =
-      let (value_is_read, others_are_read) = both (is_read (codes "kind") value) (are_values (codes "kind") other_values) all_read in value_is_read
+    -- the first of readable values of `--kind` is readable, if there is one
+    first_value_read : (other_values : List Text) → are_values (codes "kind") other_values ≡ true
+        → option_map_or (is_read (codes "kind")) (slice_get other_values 0) true ≡ true
+    first_value_read [] all_read = refl
+    first_value_read (value ∷ other_values) all_read =
+        let (value_is_read, others_are_read) = both (is_read (codes "kind") value) (are_values (codes "kind") other_values) all_read in value_is_read

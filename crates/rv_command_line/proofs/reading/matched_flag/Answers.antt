@@ -16,11 +16,11 @@ reads_truth E text (Some false) read = rw read refl
 reads_truth E text None (error, (is_not_true, is_not_false)) =
     rw (not_equal (codes "true") is_not_true, not_equal (codes "false") is_not_false) refl
   where
-  -- two different texts fail the test of equal bytes
-  not_equal : (other : List ℕ) → (text ≡ other → ⊥) → bytes_eq text other ≡ false
-  not_equal other differs =
-      let (equal_if_test, test_if_equal) = bytes_eq-Decides text other in
-      false_from_ne_true (bytes_eq text other) (λ test_is. differs (equal_if_test test_is))
+    -- two different texts fail the test of equal bytes
+    not_equal : (other : List ℕ) → (text ≡ other → ⊥) → bytes_eq text other ≡ false
+    not_equal other differs =
+        let (equal_if_test, test_if_equal) = bytes_eq-Decides text other in
+        false_from_ne_true (bytes_eq text other) (λ test_is. differs (equal_if_test test_is))
 
 -- the result is the truth value in the text of the flag, if the command line has the flag
 pub returns : goal.returns
